@@ -508,8 +508,8 @@ module _ {G K C : Type 0} {g : GridMeaning G} {k : KeyMeaning K} {c : ChainMeani
     path = ap (λ (p : ArrayLayout G K C g k c). p.path) parts;
     keys = ap (λ (p : ArrayLayout G K C g k c). p.keys) parts;
     chain = ap (λ (p : ArrayLayout G K C g k c). p.chain) parts;
-    data_type = ap (λ (p : ArrayLayout G K C g k c). p.data_type) parts;
-    fill_value = ap (λ (p : ArrayLayout G K C g k c). p.fill_value) parts;
+    data_type = ap (λ (p : ArrayLayout G K C g k c). p.cell_type.data_type) parts;
+    fill_value = ap (λ (p : ArrayLayout G K C g k c). p.cell_type.fill_value) parts;
   }
 
   -- the parts that a change of the shape keeps lie as before
@@ -524,8 +524,8 @@ module _ {G K C : Type 0} {g : GridMeaning G} {k : KeyMeaning K} {c : ChainMeani
     path = gives.path ∙ ap (λ (p : ArrayLayout G K C g k c). p.path) parts;
     keys = gives.keys ∙ ap (λ (p : ArrayLayout G K C g k c). p.keys) parts;
     chain = gives.chain ∙ ap (λ (p : ArrayLayout G K C g k c). p.chain) parts;
-    data_type = gives.data_type ∙ ap (λ (p : ArrayLayout G K C g k c). p.data_type) parts;
-    fill_value = gives.fill_value ∙ ap (λ (p : ArrayLayout G K C g k c). p.fill_value) parts;
+    data_type = gives.data_type ∙ ap (λ (p : ArrayLayout G K C g k c). p.cell_type.data_type) parts;
+    fill_value = gives.fill_value ∙ ap (λ (p : ArrayLayout G K C g k c). p.cell_type.fill_value) parts;
   }
 
   pub others_then : (old mid new : Engine S G K C g k c) → KeepsOthers old mid → KeepsOthers mid new → KeepsOthers old new

@@ -19,7 +19,7 @@ use Rattle.zarrs_data_type.specs.Cells.{cells, fits, cell_at}
 use Rattle.zarrs_data_type.specs.Parts.{TakesEach}
 use Rattle.zarrs_data_type_bytes.proofs.Cells.{cells-parts}
 use Rattle.zarrs_data_type_region.specs.declared.target.ArrayBytesDecodeIntoTarget.{ArrayBytesDecodeIntoTarget}
-use Rattle.zarrs_data_type.specs.States.{IsTarget, data_of_target, parent_box, target_box}
+use Rattle.zarrs_data_type.specs.States.{data_of_target, parent_box, target_box}
 use Rattle.zarrs_data_type.specs.Targets.{takes_type}
 use Rattle.zarrs_data_type_region.proofs.TypeSizes.{type_taken, taken_fixed}
 use Rattle.zarrs_data_type_region.proofs.TargetBoxes.{bytes_within, lies_at_origin, origin_long}
@@ -75,13 +75,13 @@ into_read layout shape region fit target dimensions fits is same small =
     into_region layout shape region fit target dimensions fits is same ∙ sym (or_none (region_refusal layout shape region) (size_refusal layout region.shape) small)
 
 module _ (layout : Layout) (lawful : IsLawful layout) (region : Box) (t : ArrayBytesDecodeIntoTarget) where
-  pub target_read : (shape : List ℕ) → IsTarget t → IsLong (target_box t) → length region.start ≡ layout.grid.dimensions
+  pub target_read : (shape : List ℕ) → length region.start ≡ layout.grid.dimensions
       → takes_type t.cell_size t.depth layout.kind ≡ true → (target_box t).shape ≡ region.shape
       → target_refusal layout shape region t ≡ read_region_refusal layout shape region
-  target_read shape is long dimensions takes same =
+  target_read shape dimensions takes same =
       let size = (type_taken t.cell_size t.depth layout.kind takes).0 in
-      let within = bytes_within (length t.bytes.now) t.cell_size (length t.masks.now) t.depth t.parent_shape.now (target_box t) long is in
-      let small = is.small in
+      let within = bytes_within (length t.bytes.now) t.cell_size (length t.masks.now) t.depth t.parent_shape.now (target_box t) t.region.now.same_length t.whole in
+      let small = t.whole.small in
       let lt : position_count (target_box t).shape * t.cell_size < 2 ^ 64 = omega arith in
       into_read layout shape region (takes_type t.cell_size t.depth layout.kind) (target_box t).shape dimensions takes (taken_fixed t.cell_size t.depth layout.kind takes) same
       (read_size layout region.shape t.cell_size (size_is layout.kind t.cell_size size)
@@ -108,27 +108,28 @@ cell_found k d cs i cell is at =
     ∙ ap (λ l. get_or l i none) (sym (cells-parts k d cs is).2) ∙ get_or_from_slice_get cs i cell none at
 
 -- a position of the region, in the target's box
-taken_at : (k : Kind) (region : Box) (t : ArrayBytesDecodeIntoTarget) (held new : ArrayData) (position : List ℕ) → IsTarget t → IsLong region → IsLong (target_box t) → (target_box t).shape ≡ region.shape
+taken_at : (k : Kind) (region : Box) (t : ArrayBytesDecodeIntoTarget) (held new : ArrayData) (position : List ℕ) → IsLong region → (target_box t).shape ≡ region.shape
     → TakesEach k (parent_box t) (target_box t) held (data_of_target t) new → Holds region position
     → cell_at k new (place_of region t position) ≡ cell_at k held (place_in region position)
-taken_at k region t held new position is long target_long same takes holds =
+taken_at k region t held new position long same takes holds =
+    let target_long = t.region.now.same_length in
     let start = (target_box t).start in
     let offset = offset_from region.start position in
     let there = offset_by start offset in
     let within = offset_from-in region.start region.shape position long holds in
     let inside = subst (λ s. InShape s offset) (sym same) within in
     let lies = in_box-offset_by start (target_box t).shape offset target_long inside in
-    let parent = holds_inside (target_box t) (parent_box t) there target_long (origin_long t.parent_shape.now) (lies_at_origin (target_box t) t.parent_shape.now is.inside) lies in
+    let parent = holds_inside (target_box t) (parent_box t) there target_long (origin_long t.parent_shape.now) (lies_at_origin (target_box t) t.parent_shape.now t.whole.inside) lies in
     let place : place_in (target_box t) there ≡ place_in region position =
     ap (place (target_box t).shape) (offset_from-by start (target_box t).shape offset target_long inside) ∙ ap (λ s. place s offset) same in
     takes.each_cell there parent
     ∙ ap (λ b. cond b (cell_at k held (place_in (target_box t) there)) (cell_at k (data_of_target t) (place_in (parent_box t) there))) lies
     ∙ ap (cell_at k held) place
 
-pub has_content : (layout : Layout) (region : Box) (chunks : List (List ℕ)) (held : ArrayData) (state : StoreState) (old new : ArrayBytesDecodeIntoTarget) → IsTarget old → IsLong (target_box old) → (target_box old).shape ≡ region.shape
+pub has_content : (layout : Layout) (region : Box) (chunks : List (List ℕ)) (held : ArrayData) (state : StoreState) (old new : ArrayBytesDecodeIntoTarget) → (target_box old).shape ≡ region.shape
     → ReadsRegion layout region chunks held state → TakesEach layout.kind (parent_box old) (target_box old) held (data_of_target old) (data_of_target new) → HasContent layout region state old new
-has_content layout region chunks held state old new is long same r takes = λ position cell holds found.
-    taken_at layout.kind region old held (data_of_target new) position is r.long long same takes holds
+has_content layout region chunks held state old new same r takes = λ position cell holds found.
+    taken_at layout.kind region old held (data_of_target new) position r.long same takes holds
     ∙ cell_found layout.kind held r.given (place_in region position) cell r.are_cells (r.reads.each position cell holds found)
 
 -- ---- what is refused

@@ -1,7 +1,7 @@
 -- Targets whose box was read.
 use Rattle.std.proofs.Common.{◌≡◌, ℕ, ◌<◌, Bool, true, List, [], ◌∷◌, None, Some, Ok, Err, OnOk, Result, refl, sym, ap, ◌∙◌, subst}
 use Rattle.zarrs_subset.specs.Boxes.{position_count, offset_by, offset_from}
-use Rattle.zarrs_subset.specs.Regions.{Box, Holds, IsLong, box_at_origin, box_of, place_in}
+use Rattle.zarrs_subset.specs.Regions.{Box, Holds, box_at_origin, box_of, place_in}
 use Rattle.zarrs_subset.proofs.Bytes.{place_in_below}
 use Rattle.zarrs_storage.specs.Store.{StoreState}
 use Rattle.zarrs_data_type.specs.Kind.{Kind}
@@ -9,9 +9,10 @@ use Rattle.zarrs_data_type.specs.ArrayData.{ArrayData}
 use Rattle.zarrs_data_type.specs.Cells.{cell_at, fits}
 use Rattle.zarrs_data_type_bytes.proofs.Cells.{IsSized}
 use Rattle.zarrs_data_type_region.specs.declared.target.ArrayBytesDecodeIntoTarget.{ArrayBytesDecodeIntoTarget}
-use Rattle.zarrs_data_type.specs.States.{IsTarget, SameBox, StaysOutside, data_of_target, parent_box, target_box}
+use Rattle.zarrs_data_type.specs.States.{IsSameTarget, KeepsTarget, data_of_target, parent_box, target_box}
 use Rattle.zarrs_data_type.specs.Targets.{HasLevels, KeepsOutside, masked, takes_type}
 use Rattle.zarrs_data_type_region.proofs.TargetBoxes.{lies_at_origin, origin_long}
+use Rattle.zarrs_data_type_region.proofs.Kept.{same_twice}
 use Rattle.zarrs_data_type_region.proofs.TargetLevels.{masked_levels}
 use Rattle.zarrs_data_type_region.proofs.TypeSizes.{type_taken}
 use Rattle.zarrs_codec_chain.proofs.Stays.{keeps_more}
@@ -35,15 +36,15 @@ use Rattle.zarrs_engine.proofs.TargetReads.{each_read, reads_from}
 use Rattle.zarrs_codec_chain.proofs.MovedBoxes.{moved_unravel, origin_moved}
 
 -- the data of a target has its levels
-pub target_levels : (old new : ArrayBytesDecodeIntoTarget) → IsTarget new → SameBox old new → HasLevels old.depth old.cell_size (position_count old.parent_shape.now) (data_of_target new)
-target_levels old new is same =
+pub target_levels : (old new : ArrayBytesDecodeIntoTarget) → IsSameTarget old new → HasLevels old.depth old.cell_size (position_count old.parent_shape.now) (data_of_target new)
+target_levels old new same =
     let d = data_of_target new in
-    let levels = masked_levels new.depth new.cell_size (position_count new.parent_shape.now) new.masks.now new.bytes.now is.has_bytes is.has_masks in
+    let levels = masked_levels new.depth new.cell_size (position_count new.parent_shape.now) new.masks.now new.bytes.now new.whole.has_bytes new.whole.has_masks in
     subst (λ (s : List ℕ). HasLevels old.depth old.cell_size (position_count s) d) same.parent_shape
     (subst (λ n. HasLevels old.depth n (position_count new.parent_shape.now) d) same.cell_size
     (subst (λ n. HasLevels n new.cell_size (position_count new.parent_shape.now) d) same.depth levels))
 
-module _ (layout : Layout) (region : Box) (state : StoreState) (old new : ArrayBytesDecodeIntoTarget) (is : IsTarget old) (long : IsLong (target_box old)) (same : (target_box old).shape ≡ region.shape)
+module _ (layout : Layout) (region : Box) (state : StoreState) (old new : ArrayBytesDecodeIntoTarget) (same : (target_box old).shape ≡ region.shape)
     (cover : CoverRegion layout.grid region (chunks_met layout.grid region)) (read : HasReadInto layout region (chunks_met layout.grid region) state (parent_box old) (target_box old) (data_of_target new)) where
   abbrev box : Box
   box = parent_box old
@@ -57,16 +58,17 @@ module _ (layout : Layout) (region : Box) (state : StoreState) (old new : ArrayB
       (each_read layout region (chunks_met layout.grid region) state cover box own (data_of_target new) read position holds).same cell found
 
   -- and is as if the cells of a read were put into it
-  pub retrieves_into : (shape : List ℕ) → IsTarget new → SameBox old new → takes_type old.cell_size old.depth layout.kind ≡ true → IsSized layout.kind → target_refusal layout shape region old ≡ None → StaysOutside old new
+  pub retrieves_into : (shape : List ℕ) → KeepsTarget old new → takes_type old.cell_size old.depth layout.kind ≡ true → IsSized layout.kind → target_refusal layout shape region old ≡ None
       → RetrievesInto layout shape region state old new
-  retrieves_into shape new_is same_box takes sized accepted stays =
+  retrieves_into shape kept takes sized accepted =
       let k = layout.kind in
       let d = data_of_target new in
       let size = old.cell_size in
       let taken = type_taken size old.depth k takes in
-      let levels = target_levels old new new_is same_box in
+      let levels = target_levels old new kept.same in
       let box_long = origin_long old.parent_shape.now in
-      let lies = lies_at_origin own old.parent_shape.now is.inside in
+      let long = old.region.now.same_length in
+      let lies = lies_at_origin own old.parent_shape.now old.whole.inside in
       let held = box_data size box own d in
       let own_levels = box_levels size box own box_long long lies old.depth d levels in
       let fit : fits k held (position_count region.shape) ≡ true =
@@ -83,7 +85,7 @@ module _ (layout : Layout) (region : Box) (state : StoreState) (old new : ArrayB
         held = held;
         accepted = accepted;
         reads = reads_from layout region (chunks_met layout.grid region) state cover held sized fit each read.whole;
-        written = box_taken size box own box_long long lies k old.depth (data_of_target old) d taken.0 taken.1 levels stays;
+        written = box_taken size box own box_long long lies k old.depth (data_of_target old) d taken.0 taken.1 levels kept.outside;
       }
 
 -- data of a region alone, whose cells were read
@@ -112,14 +114,6 @@ same_data t u depth parent masks bytes =
     ∙ ap (λ m. masked t.depth (position_count t.parent_shape.now) m u.bytes.now) masks
     ∙ ap (λ b. masked t.depth (position_count t.parent_shape.now) t.masks.now b) bytes
 
-pub same_twice : (t l u : ArrayBytesDecodeIntoTarget) → SameBox t l → SameBox l u → SameBox t u
-same_twice t l u first then = record {
-  cell_size = then.cell_size ∙ first.cell_size;
-  depth = then.depth ∙ first.depth;
-  parent_shape = then.parent_shape ∙ first.parent_shape;
-  region = then.region ∙ first.region;
-}
-
 pub same_keeps : (size size_is : ℕ) (box box_is own own_is : Box) (d d_is e e_is : ArrayData) → size_is ≡ size → box_is ≡ box → own_is ≡ own → d_is ≡ d → e_is ≡ e → KeepsOutside size_is box_is own_is d_is e_is → KeepsOutside size box own d e
 same_keeps size size_is box box_is own own_is d d_is e e_is sizes boxes owns olds news keeps =
     subst (λ (x : ArrayData). KeepsOutside size box own d x) news
@@ -136,13 +130,18 @@ same_positions layout region state box box_is own own_is e e_is boxes owns news 
 pub same_parent : (t l : ArrayBytesDecodeIntoTarget) → l.parent_shape.now ≡ t.parent_shape.now → parent_box l ≡ parent_box t
 same_parent t l same = ap box_at_origin same
 
-pub stays_more : (t l u : ArrayBytesDecodeIntoTarget) → SameBox t l → StaysOutside t l → StaysOutside l u → StaysOutside t u
-stays_more t l u same before after =
-    keeps_more t.cell_size (parent_box t) (target_box t) (target_box t) (data_of_target t) (data_of_target l) (data_of_target u) (λ position out. out) before
-    (same_keeps t.cell_size l.cell_size (parent_box t) (parent_box l) (target_box t) (target_box l) (data_of_target l) (data_of_target l) (data_of_target u) (data_of_target u)
-    same.cell_size (same_parent t l same.parent_shape) (ap box_of same.region) refl refl after)
+pub kept_more : (t l u : ArrayBytesDecodeIntoTarget) → KeepsTarget t l → KeepsTarget l u → KeepsTarget t u
+kept_more t l u before after =
+    let same = before.same in
+    record {
+      same = same_twice t l u same after.same;
+      outside =
+          keeps_more t.cell_size (parent_box t) (target_box t) (target_box t) (data_of_target t) (data_of_target l) (data_of_target u) (λ position out. out) before.outside
+          (same_keeps t.cell_size l.cell_size (parent_box t) (parent_box l) (target_box t) (target_box l) (data_of_target l) (data_of_target l) (data_of_target u) (data_of_target u)
+          same.cell_size (same_parent t l same.parent_shape) (ap box_of same.region) refl refl after.outside);
+    }
 
-pub same_more : (layout : Layout) (filled : Bool) (region : Box) (index : List ℕ) (state : StoreState) (t l : ArrayBytesDecodeIntoTarget) (old new : ArrayData) → SameBox t l
+pub same_more : (layout : Layout) (filled : Bool) (region : Box) (index : List ℕ) (state : StoreState) (t l : ArrayBytesDecodeIntoTarget) (old new : ArrayData) → IsSameTarget t l
     → ReadsOneMoreInto layout filled region index state (parent_box l) (target_box l) old new → ReadsOneMoreInto layout filled region index state (parent_box t) (target_box t) old new
 same_more layout filled region index state t l old new same one =
     subst (λ (b : Box). ReadsOneMoreInto layout filled region index state (parent_box t) b old new) (ap box_of same.region)

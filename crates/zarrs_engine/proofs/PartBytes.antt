@@ -18,6 +18,7 @@ use Rattle.zarrs_data_type.specs.Cells.{HasCells}
 use Rattle.zarrs_data_type_bytes.proofs.Cells.{HasCells-some}
 use Rattle.zarrs_codec_leaf.specs.Stored.{value_or_empty}
 use Rattle.zarrs_codec_chain.specs.Refusals.{IsTooLargeToDecode}
+use Rattle.zarrs_engine_calls.specs.ChunkBoxes.{chunk_part}
 use Rattle.zarrs_engine_calls.specs.Layout.{Layout}
 use Rattle.zarrs_engine_calls.specs.Content.{decoded_cells, value_at}
 use Rattle.zarrs_engine_calls.specs.ArgumentRefusals.{chunk_refusal, size_refusal}
@@ -105,13 +106,14 @@ module _ (layout : Layout) (region : Box) (index : List ℕ) (state : StoreState
       ]
 
   -- a part of a chunk that is present is not decoded
-  pub part_why : IsPart layout region index → (encoded : List ℕ) (refuses : Bool) (box : Box) → box ≡ box_at layout.grid index → refuses ≡ state.refuses (layout.key index) → value_at state (layout.key index) ≡ Some encoded
-      → (r : Refusal) → RefusesPartBytes layout box encoded refuses r → RefusesSomeChunk layout region (index ∷ []) state r
-  part_why part encoded refuses box is same stands refusal.storage why = (index, member index, sym same ∙ why)
-  part_why part encoded refuses box is same stands refusal.codec why =
+  pub part_why : IsPart layout region index → (piece : Box) → piece ≡ chunk_part region (box_at layout.grid index) → (encoded : List ℕ) (refuses : Bool) (box : Box) → box ≡ box_at layout.grid index → refuses ≡ state.refuses (layout.key index) → value_at state (layout.key index) ≡ Some encoded
+      → (r : Refusal) → RefusesPartBytes layout box piece encoded refuses r → RefusesSomeChunk layout region (index ∷ []) state r
+  part_why part piece seen encoded refuses box is same stands refusal.storage why = (index, member index, sym same ∙ why)
+  part_why part piece seen encoded refuses box is same stands refusal.codec why =
       (index, member index, record { encoded = encoded; stands = stands; undecoded = subst (λ (b : Box). decoded_cells layout b encoded ≡ None) is why })
-  part_why part encoded refuses box is same stands refusal.size_overflow why =
+  part_why part piece seen encoded refuses box is same stands refusal.size_overflow why =
       some_large layout region index state has encoded stands part
-      (subst (λ (b : Box). IsTooLargeToDecode layout.chain layout.kind layout.fill b.shape encoded) is why)
-  part_why part encoded refuses box is same stands refusal.out_of_memory why = tt
-  part_why part encoded refuses box is same stands _ why = absurd why
+      (subst (λ (b : Box). IsTooLargeToDecode layout.chain layout.kind layout.fill b.shape (chunk_part region (box_at layout.grid index)) encoded) is
+      (subst (λ (b : Box). IsTooLargeToDecode layout.chain layout.kind layout.fill box.shape b encoded) seen why))
+  part_why part piece seen encoded refuses box is same stands refusal.out_of_memory why = tt
+  part_why part piece seen encoded refuses box is same stands _ why = absurd why

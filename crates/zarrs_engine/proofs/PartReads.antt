@@ -27,7 +27,8 @@ use Rattle.zarrs_engine_calls.specs.Reads.{ReadsRegion}
 use Rattle.zarrs_engine_calls.specs.Refusals as refusal
 use Rattle.zarrs_engine_calls.specs.Refusals.{Refusal, RefusesBy, fill_refusal, is_too_large, length_refusal, key_refusal, read_refusal, refuse_if}
 use Rattle.zarrs_engine_calls.specs.StateRefusals.{IsPart, RefusesChunkRead, RefusesRegionRead, RefusesSomeChunk}
-use Rattle.zarrs_engine_calls.specs.Reach.{MayDecodePart, chunk_part}
+use Rattle.zarrs_engine_calls.specs.Reach.{MayDecodePart}
+use Rattle.zarrs_engine_calls.specs.ChunkBoxes.{chunk_part}
 use Rattle.zarrs_engine_calls.specs.Step.{RetrievesPart, RefusesRetrievePart}
 use Rattle.zarrs_engine_calls.specs.Content.{content, value_at}
 use Rattle.zarrs_engine_calls.proofs.Contents.{absent_fill, member, only_member}
@@ -387,3 +388,9 @@ part_asked layout index part region state long lies seen ask =
     let box = box_at layout.grid index in
     let all = overlap_within region box long (box_long layout.grid index) lies in
     subst (λ (b : Box). MayDecodePart layout b index state) (ap (λ (b : Box). seen_from b box.start) all ∙ sym seen) ask
+
+-- a region that is a part of a chunk has that part of it
+pub region_seen : (layout : Layout) (index : List ℕ) (part region : Box) → IsRegionOf layout index part region → part ≡ chunk_part region (box_at layout.grid index)
+region_seen layout index part region is =
+    let box = box_at layout.grid index in
+    is.seen ∙ sym (ap (λ (b : Box). seen_from b box.start) (overlap_within region box is.long (box_long layout.grid index) is.lies))

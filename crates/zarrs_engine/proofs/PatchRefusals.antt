@@ -17,7 +17,7 @@ use Rattle.zarrs_codec_chain.specs.Refusals.{RefusesPartialEncoding}
 use Rattle.zarrs_engine_calls.specs.Layout.{Layout}
 use Rattle.zarrs_engine_calls.specs.Content.{value_at}
 use Rattle.zarrs_engine_calls.specs.Errors.{error_of_subset}
-use Rattle.zarrs_engine_calls.specs.Reach.{chunk_part}
+use Rattle.zarrs_engine_calls.specs.ChunkBoxes.{chunk_part}
 use Rattle.zarrs_engine_calls.specs.Refusals as refusal
 use Rattle.zarrs_engine_calls.specs.Refusals.{Refusal, RefusesBy, key_refusal, refusal_of, refusal_of_codec, refusal_of_storage}
 use Rattle.zarrs_engine_calls.specs.ArgumentRefusals.{chunk_refusal}

@@ -22,7 +22,7 @@ use Rattle.zarrs_engine_calls.specs.Content.{value_at, content, Reads}
 use Rattle.zarrs_engine_calls.specs.Changes.{IsPut}
 use Rattle.zarrs_engine_calls.specs.ChunkBoxes.{part_box}
 use Rattle.zarrs_engine_calls.specs.Patches.{HoldsPart, known_cells}
-use Rattle.zarrs_engine_calls.specs.Reach.{chunk_part}
+use Rattle.zarrs_engine_calls.specs.ChunkBoxes.{chunk_part}
 use Rattle.zarrs_engine_calls.proofs.Contents.{only_member, reads_absent, reads_decoded}
 use Rattle.zarrs_engine_calls.proofs.Loops.{put_changes}
 use Rattle.zarrs_engine_layout.proofs.CutWalks.{number_is}

@@ -20,7 +20,7 @@ use Rattle.zarrs_engine_calls.specs.Errors.{error_of_subset}
 use Rattle.zarrs_engine_calls.specs.Refusals.{Refusal, out_of_memory, refusal_of}
 use Rattle.zarrs_engine_calls.specs.ChunkBoxes.{part_box}
 use Rattle.zarrs_engine_calls.specs.Patches.{HoldsPart, PatchesAll}
-use Rattle.zarrs_engine_calls.specs.Reach.{chunk_part}
+use Rattle.zarrs_engine_calls.specs.ChunkBoxes.{chunk_part}
 use Rattle.zarrs_engine_calls.proofs.Contents.{member, only_member}
 use Rattle.zarrs_engine.specs.Patches.{LeavesPartly, LeavesPatch, PatchesChunk, Shares}
 use Rattle.zarrs_engine.proofs.PatchRefusals.{partly_leaves_patch}

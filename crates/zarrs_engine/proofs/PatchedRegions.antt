@@ -39,7 +39,8 @@ use Rattle.zarrs_engine.proofs.Ranges.{makes_then, next_front}
 use Rattle.zarrs_engine.proofs.RegionFronts.{may_ask_then, not_yet}
 use Rattle.zarrs_engine.proofs.RegionSteps.{at_among}
 use Rattle.zarrs_engine_layout.specs.Covers.{CoverRegion}
-use Rattle.zarrs_engine_calls.specs.Reach.{MayAskChunk, MayAskParts, chunk_part}
+use Rattle.zarrs_engine_calls.specs.Reach.{MayAskChunk, MayAskParts}
+use Rattle.zarrs_engine_calls.specs.ChunkBoxes.{chunk_part}
 use Rattle.zarrs_engine_calls.specs.StateRefusals.{IsPart, RefusesPart}
 use Rattle.zarrs_engine.proofs.Writes.{refused_early}
 

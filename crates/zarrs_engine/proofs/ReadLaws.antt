@@ -93,10 +93,10 @@ module _ (layout : Layout) (shape : List ℕ) (region : Box) (fit : Bool) (targe
       (bytes_eq-Decides target region.shape).0 (not_refused (pointwise nat_eq target region.shape) other last.0)
 
 pub targets_agree : TargetReadsAgree
-targets_agree layout lawful shape region held old new state is read into =
+targets_agree layout lawful shape region held old new state read into =
     let r = read.1 in
     let same = same_shape layout shape region (takes_type old.cell_size old.depth layout.kind) (target_box old).shape into.accepted in
-    let has = has_content layout region (chunks_met layout.grid region) into.held state old new is old.region.now.same_length same into.reads into.written in (
+    let has = has_content layout region (chunks_met layout.grid region) into.held state old new same into.reads into.written in (
       r.given,
       r.are_cells,
       λ position holds sound.

@@ -5,6 +5,7 @@ use Rattle.zarrs_chunk_grid.specs.declared.traits.ChunkGridTraits.{Ghosts as Gri
 use Rattle.zarrs_keys.specs.declared.traits.ChunkKeyEncodingTraits.{Ghosts as KeyMeaning}
 use Rattle.zarrs_codec_chain.specs.declared.traits.ChainTraits.{Ghosts as ChainMeanings}
 use Rattle.zarrs_data_type.specs.declared.data_type.DataType.{DataType}
+use Rattle.zarrs_data_type_kinds.specs.declared.cell_type.CellType.{CellType}
 use Rattle.zarrs_engine_calls.specs.Layout.{Layout, ArrayState}
 use Rattle.zarrs_engine_layout.specs.Layouts.{layout_meaning}
 use Rattle.zarrs_engine.specs.declared.engine.Engine.{Engine}
@@ -42,11 +43,24 @@ module _ {G K C : Type 0} {g : GridMeaning G} {k : KeyMeaning K} {c : ChainMeani
     chain_of engine = engine.layout.chain
 
     abbrev pub data_type_of : Engine S G K C g k c → DataType
-    data_type_of engine = engine.layout.data_type
+    data_type_of engine = engine.layout.cell_type.data_type
 
     -- the bytes of the fill value
     abbrev pub fill_value_of : Engine S G K C g k c → List ℕ
-    fill_value_of engine = engine.layout.fill_value
+    fill_value_of engine = engine.layout.cell_type.fill_value
+
+    -- both
+    abbrev pub cell_type_of : Engine S G K C g k c → CellType
+    cell_type_of engine = engine.layout.cell_type
+
+    -- an engine of these parts
+    pub record HasParts (place : List ℕ) (cut : G) (names : K) (codecs : C) (type : DataType) (fill : List ℕ) (engine : Engine S G K C g k c) : Type 0 where
+      pub path : path_of engine ≡ place
+      pub grid : grid_of engine ≡ cut
+      pub keys : keys_of engine ≡ names
+      pub chain : chain_of engine ≡ codecs
+      pub data_type : data_type_of engine ≡ type
+      pub fill_value : fill_value_of engine ≡ fill
 
     -- nothing but the store changed
     abbrev pub KeepsLayout : Engine S G K C g k c → Engine S G K C g k c → Type 0

@@ -25,11 +25,13 @@ use Rattle.zarrs_engine_calls.specs.Compactions.{CompactsChunk}
 use Rattle.zarrs_engine_calls.specs.Content.{value_at}
 use Rattle.zarrs_engine_calls.specs.StateRefusals.{RefusesChunkRead}
 use Rattle.zarrs_engine_calls.specs.Step.{StoresChunk, RefusesStoreChunk, ErasesChunk, RefusesEraseChunk, RefusesCompactChunk}
-use Rattle.zarrs_engine_calls.specs.Step.{StoresRegion, RefusesStoreRegion, Step}
+use Rattle.zarrs_engine_calls.specs.Step.{StoresRegion, RefusesStoreRegion, Run, Step}
+use Rattle.zarrs_engine_calls.specs.Headline.{IsOneFunctionThrough}
+use Rattle.zarrs_engine_calls.specs.Laws.{EachDecodes}
 use Rattle.zarrs_engine_calls.specs.Layout.{ArrayState, Layout}
 use Rattle.zarrs_engine_calls.specs.declared.call.Call.{Call}
 use Rattle.zarrs_engine_calls.specs.declared.call.Reply.{Reply}
-use Rattle.zarrs_engine_calls.specs.Patches.{EncodesPart, PatchStep, PatchesPart, PatchesRegion, RefusesEncodePart, RefusesPatchPart, RefusesPatchRegion, writes_parts}
+use Rattle.zarrs_engine_calls.specs.Patches.{EncodesPart, PatchRun, PatchStep, PatchesPart, PatchesRegion, RefusesEncodePart, RefusesPatchPart, RefusesPatchRegion, writes_parts}
 use Rattle.zarrs_engine_calls.specs.declared.error.ArrayError.{ArrayError}
 use Rattle.zarrs_engine.specs.Engine.{layout_of, store_of, state_of, KeepsLayout}
 use Rattle.zarrs_engine.specs.declared.engine.Engine.{Engine}
@@ -44,6 +46,20 @@ pub record Reads (returns : ArrayData → Type 0) (refuses : Refusal → Type 0)
 pub record StepsAs (layout : Layout) (options : CodecOptions) (call : Call) (reply : Reply) (old new : ArrayState) : Type 0 where
   pub whole : writes_parts (encodes_partially options) layout old.store ≡ false → Step layout (stores_empty_chunks options) call reply old new
   pub partly : PatchStep layout (stores_empty_chunks options) (encodes_partially options) call reply old new
+
+-- The calls were made in turn, and got these replies. Whatever the options, that is a run of steps: so says what the keys hold
+-- of the chunks of which a part was written by itself; and the array is one function through the calls, if each chunk decodes
+-- at first. If no part is written by itself, since none is asked for or the chain or the store cannot, the keys of the chunks
+-- that were stored hold what their cells are encoded to.
+pub record RunsAs (layout : Layout) (options : CodecOptions) (calls : List Call) (replies : List Reply) (old new : ArrayState) : Type 0 where
+  pub patched : PatchRun layout (stores_empty_chunks options) (encodes_partially options) calls replies old new
+  pub one_function : EachDecodes layout old.store → IsOneFunctionThrough layout calls replies old new
+  pub run : writes_parts (encodes_partially options) layout old.store ≡ false → Run layout (stores_empty_chunks options) calls replies old new
+
+-- Each chunk still decodes. If empty chunks are not kept, the bytes of a canonical store stay a function of its content.
+pub record KeepsBytes (layout : Layout) (keep : Bool) (old new : StoreState) : Type 0 where
+  pub decodes : EachDecodes layout old → EachDecodes layout new
+  pub canonical : keep ≡ false → IsCanonical layout (value_at old) → IsCanonical layout (value_at new)
 
 module _ {S G K C : Type 0} {g : GridMeaning G} {k : KeyMeaning K} {c : ChainMeanings C} where
   -- A writing call was made: its write is done, or refused by this error. Nothing but the store changed.

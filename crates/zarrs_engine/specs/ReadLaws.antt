@@ -10,7 +10,7 @@ use Rattle.zarrs_engine_calls.specs.Layout.{Layout, IsLawful}
 use Rattle.zarrs_engine_calls.specs.Reads.{IsBroken}
 use Rattle.zarrs_engine_calls.specs.Step.{RetrievesPart, RetrievesRegion}
 use Rattle.zarrs_data_type_region.specs.declared.target.ArrayBytesDecodeIntoTarget.{ArrayBytesDecodeIntoTarget}
-use Rattle.zarrs_data_type.specs.States.{IsTarget, data_of_target}
+use Rattle.zarrs_data_type.specs.States.{data_of_target}
 use Rattle.zarrs_engine.specs.Into.{RetrievesInto, place_of}
 use Rattle.zarrs_engine.specs.PartialDecoders.{region_of_part}
 
@@ -22,7 +22,7 @@ DecodesAt layout state position = IsBroken layout (index_at layout.grid position
 abbrev pub TargetReadsAgree : Type 0
 TargetReadsAgree =
     (layout : Layout) → IsLawful layout → (shape : List ℕ) (region : Box) (held : ArrayData) (old new : ArrayBytesDecodeIntoTarget) (state : StoreState)
-    → IsTarget old → RetrievesRegion layout shape region held state → RetrievesInto layout shape region state old new
+    → RetrievesRegion layout shape region held state → RetrievesInto layout shape region state old new
     → (given : List Cell) × (cells layout.kind held ≡ Some given)
     × ((position : List ℕ) → Holds region position → DecodesAt layout state position
     → cell_in region given position ≡ Some (cell_at layout.kind (data_of_target new) (place_of region old position)))

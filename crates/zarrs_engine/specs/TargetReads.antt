@@ -1,5 +1,5 @@
--- What reads of regions leave in data over a larger box.
-use Rattle.std.specs.Prelude.{◌≡◌, ◌++◌, Bool, List, [], ◌∷◌, ℕ, true, false, Some, Contains}
+-- What reads of regions leave in data over a larger box, and in targets.
+use Rattle.std.specs.Prelude.{◌≡◌, ◌++◌, Bool, List, [], ◌∷◌, ℕ, true, false, Some, Contains, Result, IfErr, OnOk}
 use Rattle.zarrs_subset.specs.Boxes.{offset_by, offset_from}
 use Rattle.zarrs_subset.specs.Regions.{Box, Holds, place_in}
 use Rattle.zarrs_chunk_grid.specs.Grids.{box_at}
@@ -12,6 +12,12 @@ use Rattle.zarrs_engine_calls.specs.Content.{value_at, content}
 use Rattle.zarrs_engine_calls.specs.Fronts.{is_in_chunks}
 use Rattle.zarrs_engine_calls.specs.Layout.{Layout}
 use Rattle.zarrs_engine_calls.specs.Reads.{IsBroken}
+use Rattle.zarrs_engine_calls.specs.Refusals.{refusal_of}
+use Rattle.zarrs_engine_calls.specs.StateRefusals.{RefusesSomeChunk}
+use Rattle.zarrs_engine_calls.specs.declared.error.ArrayError.{ArrayError}
+use Rattle.zarrs_data_type_region.specs.declared.target.ArrayBytesDecodeIntoTarget.{ArrayBytesDecodeIntoTarget}
+use Rattle.zarrs_data_type.specs.States.{KeepsTarget, data_of_target, parent_box, target_box}
+use Rattle.zarrs_data_type.specs.Targets.{takes_type}
 
 -- the cell is a value of the type, and the content at the position, wherever there is one
 pub record IsRead (layout : Layout) (state : StoreState) (position : List ℕ) (cell : Cell) : Type 0 where
@@ -48,3 +54,15 @@ pub record HasReadSoFar (layout : Layout) (filled : Bool) (region : Box) (chunks
 abbrev pub ReadsOneMoreInto : Layout → Bool → Box → List ℕ → StoreState → (box own : Box) → ArrayData → ArrayData → Type 0
 ReadsOneMoreInto layout filled region index state box own old new =
     (chunks : List (List ℕ)) → HasReadSoFar layout filled region chunks state box own old → HasReadSoFar layout filled region (chunks ++ index ∷ []) state box own new
+
+-- the target takes the cells of the region: it has the cells of the array's type, in a box of the region's shape
+pub record TakesRegion (layout : Layout) (region : Box) (t : ArrayBytesDecodeIntoTarget) : Type 0 where
+  pub takes : takes_type t.cell_size t.depth layout.kind ≡ true
+  pub same_shape : (target_box t).shape ≡ region.shape
+
+-- One chunk was read into its part of the target's box, or the read is refused. Every byte outside the box stays.
+pub record ReadsChunkInto (layout : Layout) (filled : Bool) (region : Box) (index : List ℕ) (state : StoreState)
+    (old new : ArrayBytesDecodeIntoTarget) (result : Result (Unit {0}) ArrayError) : Type 0 where
+  pub kept : KeepsTarget old new
+  pub read : OnOk result (ReadsOneMoreInto layout filled region index state (parent_box old) (target_box old) (data_of_target old) (data_of_target new))
+  pub refused : IfErr result (λ e. RefusesSomeChunk layout region (index ∷ []) state (refusal_of e))

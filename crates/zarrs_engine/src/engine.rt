@@ -16,7 +16,7 @@ pub use calls::replay;
 use std::fmt;
 use zarrs_chunk_grid::ChunkGridTraits;
 use zarrs_codec_chain::ChainTraits;
-use zarrs_data_type::{DataType, FillValue};
+use zarrs_data_type::{CellType, DataType, FillValue};
 use zarrs_engine_layout::ArrayLayout;
 use zarrs_keys::{ChunkKeyEncodingTraits, NodePath};
 
@@ -39,7 +39,7 @@ impl<S, G: ChunkGridTraits, K: ChunkKeyEncodingTraits, C: ChainTraits> Engine<S,
     ghost use Rattle.zarrs_engine_calls.specs.Layout.{layout_at};
     ghost use Rattle.zarrs_engine_layout.specs.Layouts.{layout_meaning};
     ghost use Rattle.zarrs_engine.specs.Engine.{layout_of, the_store, path_of, grid_of, keys_of};
-    ghost use Rattle.zarrs_engine.specs.Engine.{chain_of, data_type_of, fill_value_of};
+    ghost use Rattle.zarrs_engine.specs.Engine.{cell_type_of, chain_of, data_type_of, fill_value_of, HasParts};
     ghost use Rattle.zarrs_engine.specs.Lending.{LendsStore};
 
     /// An engine over the store, for the array at the path that is cut by the grid, whose chunks lie at the keys of the
@@ -57,20 +57,17 @@ impl<S, G: ChunkGridTraits, K: ChunkKeyEncodingTraits, C: ChainTraits> Engine<S,
         ensures layout { layout_of result ≡ layout_at (G.grid grid) path (K.key keys)
             (C.meaning chain) (kind data_type) fill_value }
         ensures storage { the_store result ≡ storage }
-        ensures path { path_of result ≡ path }
-        ensures grid { grid_of result ≡ grid }
-        ensures keys { keys_of result ≡ keys }
-        ensures chain { chain_of result ≡ chain }
-        ensures data_type { data_type_of result ≡ data_type }
-        ensures fill_value { fill_value_of result ≡ fill_value }
+        ensures parts { HasParts path grid keys chain data_type fill_value result }
     {
         let layout = ArrayLayout {
             path,
             grid,
             keys,
             chain,
-            data_type,
-            fill_value,
+            cell_type: CellType {
+                data_type,
+                fill_value,
+            },
         };
         Engine { storage, layout }
     }
@@ -98,8 +95,7 @@ impl<S, G: ChunkGridTraits, K: ChunkKeyEncodingTraits, C: ChainTraits> Engine<S,
         ensures grid { result.now.grid ≡ grid_of self.now }
         ensures keys { result.now.keys ≡ keys_of self.now }
         ensures chain { result.now.chain ≡ chain_of self.now }
-        ensures data_type { result.now.data_type ≡ data_type_of self.now }
-        ensures fill_value { result.now.fill_value ≡ fill_value_of self.now }
+        ensures cell_type { result.now.cell_type ≡ cell_type_of self.now }
     {
         &self.layout
     }
@@ -143,14 +139,14 @@ impl<S, G: ChunkGridTraits, K: ChunkKeyEncodingTraits, C: ChainTraits> Engine<S,
     pub fn data_type(&self) -> &DataType
         ensures { result.now ≡ data_type_of self.now }
     {
-        &self.layout.data_type
+        &self.layout.cell_type.data_type
     }
 
     /// Returns the value of a cell that was never written.
     pub fn fill_value(&self) -> &FillValue
         ensures { result.now ≡ fill_value_of self.now }
     {
-        &self.layout.fill_value
+        &self.layout.cell_type.fill_value
     }
 }
 
@@ -191,8 +187,8 @@ impl<S, G: ChunkGridTraits, K: ChunkKeyEncodingTraits, C: ChainTraits> fmt::Debu
     fn fmt<W: fmt::Write>(&self, f: &mut fmt::Formatter<W>) -> fmt::Result {
         f.debug_struct("Engine")
             .field("path", &self.layout.path)
-            .field("data_type", &self.layout.data_type)
-            .field("fill_value", &self.layout.fill_value)
+            .field("data_type", &self.layout.cell_type.data_type)
+            .field("fill_value", &self.layout.cell_type.fill_value)
             .finish_non_exhaustive()
     }
 }

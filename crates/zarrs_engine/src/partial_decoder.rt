@@ -65,20 +65,17 @@ impl<
     K: ChunkKeyEncodingTraits,
     C: ChainTraits,
 > ChunkPartialDecoder<'_, S, G, K, C> {
-    ghost use Rattle.std.specs.Prelude.{◌≡◌, ◌↔◌, true, None, IfOk, IfErr, IsSome, IsTrue, OnErr, OnOk};
+    ghost use Rattle.std.specs.Prelude.{◌≡◌, ◌↔◌, true, None, IfOk, IfErr, IsTrue, OnOk};
     ghost use Rattle.zarrs_subset.specs.Regions.{box_of};
     ghost use Rattle.zarrs_data_type.specs.ArrayData.{data_of};
-    ghost use Rattle.zarrs_engine_calls.specs.ArgumentRefusals.{part_refusal, region_refusal};
+    ghost use Rattle.zarrs_engine_calls.specs.ArgumentRefusals.{part_refusal};
     ghost use Rattle.zarrs_engine_calls.specs.Changes.{IsPresent};
     ghost use Rattle.zarrs_engine_calls.specs.Refusals.{RefusesBy, key_refusal, refusal_of};
     ghost use Rattle.zarrs_engine_calls.specs.Step.{RetrievesPart, RefusesRetrievePart};
-    ghost use Rattle.zarrs_data_type.specs.States.{IsTarget, SameBox, StaysOutside};
     ghost use Rattle.zarrs_engine.specs.Engine.{layout_of, state_of, store_of};
-    ghost use Rattle.zarrs_engine.specs.Into.{HasContent, RetrievesInto};
     ghost use Rattle.zarrs_engine.specs.Outcomes.{MayRetrievePart};
     ghost use Rattle.zarrs_engine.specs.PartialDecoders.{engine_of, indices_of};
-    ghost use Rattle.zarrs_engine.specs.PartialDecoders.{RefusesPartInto, part_into_refusal};
-    ghost use Rattle.zarrs_engine.specs.PartialDecoders.{region_of_part};
+    ghost use Rattle.zarrs_engine.specs.PartialDecoders.{DecodesPartInto, region_of_part};
 
     /// Returns the cells of a part of the chunk, in row-major order, as `Engine::retrieve_chunk_subset` returns them.
     /// The part is seen from the origin of the chunk. Where the chunk is absent they are fill.
@@ -114,6 +111,7 @@ impl<
     /// cell size or depth than the data type's, of which a variable type has none; E6 for a box of another shape than
     /// the part's; E7, E8 and E4 as the read of a region has them. E9 may come at any time. What the arguments decide is
     /// refused before a byte is written; after another refusal the inside of the box is open.
+    #[tactic(auto, using(zarrs_data_type_region::proofs::Kept::keeps_itself))]
     pub fn partial_decode_into(
         &self,
         alloc: Global,
@@ -121,42 +119,11 @@ impl<
         target: &mut ArrayBytesDecodeIntoTarget<'_, '_, '_>,
         _options: &CodecOptions,
     ) -> Result<(), ArrayError>
-        requires ask { MayRetrievePart S.state (indices_of self.now) (box_of chunk_subset.now)
+        requires { MayRetrievePart S.state (indices_of self.now) (box_of chunk_subset.now)
             (engine_of self.now) }
-        requires target { IsTarget target.old }
-        ensures target { IsTarget target.new }
-        ensures same_bytes { target.new.bytes.ghost_name ≡ target.old.bytes.ghost_name }
-        ensures same_masks { target.new.masks.ghost_name ≡ target.old.masks.ghost_name }
-        ensures same_box { SameBox target.old target.new }
-        ensures accepted { OnOk result (part_refusal (layout_of (engine_of self.now))
-            (indices_of self.now) (box_of chunk_subset.now) ≡ None) }
-        // Chunks cover a part that lies in the chunk, so it is not refused by E1.
-        ensures covered { part_refusal (layout_of (engine_of self.now)) (indices_of self.now)
-            (box_of chunk_subset.now) ≡ None
-            → region_refusal (layout_of (engine_of self.now))
-            (state_of S.state (engine_of self.now)).shape (region_of_part
-            (layout_of (engine_of self.now)) (indices_of self.now) (box_of chunk_subset.now))
-            ≡ None }
-        ensures cells { OnOk result (RetrievesInto (layout_of (engine_of self.now))
-            (state_of S.state (engine_of self.now)).shape (region_of_part
-            (layout_of (engine_of self.now)) (indices_of self.now) (box_of chunk_subset.now))
-            (store_of S.state (engine_of self.now)) target.old target.new) }
-        ensures content { OnOk result (HasContent (layout_of (engine_of self.now)) (region_of_part
-            (layout_of (engine_of self.now)) (indices_of self.now) (box_of chunk_subset.now))
-            (store_of S.state (engine_of self.now)) target.old target.new) }
-        ensures refused { IfErr result (λ e. RefusesPartInto (layout_of (engine_of self.now))
-            (state_of S.state (engine_of self.now)).shape (indices_of self.now)
-            (box_of chunk_subset.now) target.old (refusal_of e)
-            (store_of S.state (engine_of self.now))) }
-        ensures outside { StaysOutside target.old target.new }
-        ensures kept_bytes { OnErr result (IsSome (part_into_refusal
-            (layout_of (engine_of self.now)) (state_of S.state (engine_of self.now)).shape
-            (indices_of self.now) (box_of chunk_subset.now) target.old)
-            → target.new.bytes.now ≡ target.old.bytes.now) }
-        ensures kept_masks { OnErr result (IsSome (part_into_refusal
-            (layout_of (engine_of self.now)) (state_of S.state (engine_of self.now)).shape
-            (indices_of self.now) (box_of chunk_subset.now) target.old)
-            → target.new.masks.now ≡ target.old.masks.now) }
+        ensures { DecodesPartInto (layout_of (engine_of self.now)) (indices_of self.now)
+            (box_of chunk_subset.now) (state_of S.state (engine_of self.now)) target.old target.new
+            result }
     {
         let region = self.region_of(alloc, chunk_subset)?;
         self.engine

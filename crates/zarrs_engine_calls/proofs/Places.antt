@@ -18,7 +18,7 @@ use Rattle.zarrs_engine_calls.specs.Content.{value_at, content, cell_at_place, c
 use Rattle.zarrs_engine_calls.specs.Changes.{RetrievesChunk}
 use Rattle.zarrs_engine_calls.specs.ChunkBoxes.{CoversBox, chunks_met, is_whole_of, part_box}
 use Rattle.zarrs_engine_calls.specs.Reads.{IsBroken, ReadsRegion}
-use Rattle.zarrs_engine_calls.specs.Reach.{chunk_part}
+use Rattle.zarrs_engine_calls.specs.ChunkBoxes.{chunk_part}
 use Rattle.zarrs_engine_calls.specs.Step.{RetrievesPart}
 use Rattle.zarrs_engine_calls.specs.Laws.{DecodesOver}
 use Rattle.zarrs_engine_calls.specs.Reached.{AgreeForRead, AgreeInPart, CellsDependOnPlaces, ReadsDependOnPlaces}

@@ -218,7 +218,7 @@ module _ (layout : Layout) (lawful : IsLawful layout) (a b : StoreState) where
 
     -- what a read decodes whole of the chunk is too large
     too_large : (region : Box) → IsTooLargeToRead layout region index a → IsTooLargeToRead layout region index b
-    too_large region r = record { encoded = r.encoded; stands = same.values ∙ r.stands; whole = r.whole; decoded_whole = r.decoded_whole; large = r.large }
+    too_large region r = record { encoded = r.encoded; stands = same.values ∙ r.stands; large = r.large }
 
     -- a refused read of the chunk
     chunk_refused : (early : Option Refusal) (needed : Bool) (r : Refusal)

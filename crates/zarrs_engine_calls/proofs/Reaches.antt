@@ -5,7 +5,8 @@ use Rattle.zarrs_chunk_grid.specs.Grids.{box_at}
 use Rattle.zarrs_storage.specs.Store.{StoreState}
 use Rattle.zarrs_codec_chain.specs.Chain.{IsLawfulChain}
 use Rattle.zarrs_engine_calls.specs.Layout.{Layout}
-use Rattle.zarrs_engine_calls.specs.Reach.{MayAskChunk, MayAskChunks, MayDecodePart, MayReadPart, MayReadParts, chunk_part}
+use Rattle.zarrs_engine_calls.specs.Reach.{MayAskChunk, MayAskChunks, MayDecodePart, MayReadPart, MayReadParts}
+use Rattle.zarrs_engine_calls.specs.ChunkBoxes.{chunk_part}
 
 module _ (layout : Layout) (lawful : IsLawfulChain layout.chain) (index : List ℕ) (state : StoreState) (may : MayAskChunk layout index state) where
   pub may_decode_asked : (part : Box) → MayDecodePart layout part index state

@@ -27,7 +27,7 @@ use Rattle.zarrs_engine_calls.specs.ChunkBoxes.{chunks_met, part_box}
 use Rattle.zarrs_engine_calls.specs.ArgumentRefusals.{argument_refusal, store_part_refusal, store_region_refusal}
 use Rattle.zarrs_engine_calls.specs.Step.{ActStep}
 use Rattle.zarrs_engine_calls.specs.Fronts.{RefusesWrite}
-use Rattle.zarrs_engine_calls.specs.Reach.{chunk_part}
+use Rattle.zarrs_engine_calls.specs.ChunkBoxes.{chunk_part}
 use Rattle.zarrs_engine_calls.specs.StateRefusals.{CallFails, IsPart, RefusesPart}
 
 -- ---- which chunks take their part by themselves

@@ -1,7 +1,7 @@
 -- The keys that a call may ask.
 use Rattle.std.specs.Prelude.{◌≡◌, ◌⊎◌, ℕ, true, List, [], ◌∷◌, Option, Some, None, Contains, if◌then◌else◌}
 use Rattle.std.specs.Option.{option_or}
-use Rattle.zarrs_subset.specs.Regions.{Box, box_of, overlap_of, positions, seen_from}
+use Rattle.zarrs_subset.specs.Regions.{Box, box_of, positions}
 use Rattle.zarrs_chunk_grid.specs.Grids.{box_at}
 use Rattle.zarrs_keys.specs.Keys.{IsIndexList}
 use Rattle.zarrs_storage.specs.Store.{StoreState, MayReadWhole}
@@ -10,7 +10,7 @@ use Rattle.zarrs_engine_calls.specs.declared.call.Call.{Call}
 use Rattle.zarrs_engine_calls.specs.declared.call.Call.TheVariants as call
 use Rattle.zarrs_engine_calls.specs.Refusals.{Refusal}
 use Rattle.zarrs_engine_calls.specs.ArgumentRefusals.{chunk_refusal, dimensions_refusal, part_refusal, range_refusal, region_refusal, resize_refusal}
-use Rattle.zarrs_engine_calls.specs.ChunkBoxes.{CoversBox, chunks_met, is_empty, part_box}
+use Rattle.zarrs_engine_calls.specs.ChunkBoxes.{CoversBox, chunk_part, chunks_met, is_empty, part_box}
 use Rattle.zarrs_engine_calls.specs.Content.{value_at}
 use Rattle.zarrs_engine_calls.specs.Cuts.{cut_chunks, keeps_some}
 use Rattle.zarrs_engine_calls.specs.StateRefusals.{IsPart}
@@ -101,10 +101,6 @@ pub record MayDecodePart (layout : Layout) (part : Box) (index : List ℕ) (stat
   pub places : IsIndexList layout.grid.dimensions index → (value : List ℕ) (place : ℕ) → value_at state (layout.key index) ≡ Some value
       → layout.chain.places layout.kind (box_at layout.grid index).shape part value place ≡ true
       → state.may_read (layout.key index) place ≡ true
-
--- the part that a region has of a chunk of this box, seen from the corner of the chunk
-abbrev pub chunk_part : (region chunk : Box) → Box
-chunk_part region chunk = seen_from (overlap_of region chunk) chunk.start
 
 -- The key of the chunk may be asked, and the places of its value that a read of the region needs: those of its part, and
 -- each place if the region covers the chunk.

@@ -11,7 +11,8 @@ use Rattle.zarrs_engine_calls.specs.ChunkBoxes.{part_box}
 use Rattle.zarrs_engine_calls.specs.declared.call.Call.{Call}
 use Rattle.zarrs_engine_calls.specs.declared.call.Reply.{Reply}
 use Rattle.zarrs_engine_calls.specs.Laws.{DecodesOver}
-use Rattle.zarrs_engine_calls.specs.Reach.{Reach, chunk_part, location_refusal}
+use Rattle.zarrs_engine_calls.specs.Reach.{Reach, location_refusal}
+use Rattle.zarrs_engine_calls.specs.ChunkBoxes.{chunk_part}
 use Rattle.zarrs_engine_calls.specs.Step.{RetrievesChunks, RetrievesPart, RetrievesRegion, Step}
 
 -- the same bytes are present at the key of the chunk, or none in both, and both refuse to read it or neither

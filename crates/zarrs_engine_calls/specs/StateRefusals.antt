@@ -12,11 +12,12 @@ use Rattle.zarrs_data_type.specs.Cell.{Cell, held_size}
 use Rattle.zarrs_data_type.specs.Cell as cell
 use Rattle.zarrs_data_type.specs.ArrayData.{ArrayData}
 use Rattle.zarrs_data_type.specs.Cells.{cells}
+use Rattle.zarrs_codec_chain.specs.Refusals.{IsTooLargeToDecode}
 use Rattle.zarrs_engine_calls.specs.Layout.{Layout}
 use Rattle.zarrs_engine_calls.specs.Content.{value_at, content, Reads}
 use Rattle.zarrs_engine_calls.specs.Refusals as refusal
 use Rattle.zarrs_engine_calls.specs.Refusals.{Refusal, RefusesBy, box_refusal, is_too_large, data_refusal, fill_refusal, key_refusal, read_refusal}
-use Rattle.zarrs_engine_calls.specs.ChunkBoxes.{CoversBox}
+use Rattle.zarrs_engine_calls.specs.ChunkBoxes.{CoversBox, chunk_part}
 use Rattle.zarrs_engine_calls.specs.Cuts.{is_below, keeps_some}
 use Rattle.zarrs_engine_calls.specs.Reads.{IsBroken}
 
@@ -141,22 +142,20 @@ pub record RefusesCut (layout : Layout) (keep : Bool) (shape index : List ℕ) (
   pub gone : keeps_some layout.grid shape index ≡ false → RefusesErasure failed new r
   pub kept : keeps_some layout.grid shape index ≡ true → RefusesKeptCut layout keep shape index failed new r
 
--- What a read of the region decodes whole of the chunk: all of it, if the region covers it; of a part of it what the chain
--- says, which is the chunk, a subchunk or nothing.
-abbrev pub IsDecodedWhole : Layout → Box → List ℕ → List ℕ → Type 0
-IsDecodedWhole layout region index whole =
-    (CoversBox region (box_at layout.grid index) × (whole ≡ (box_at layout.grid index).shape))
-    ⊎ (IsPart layout region index × (layout.chain.decodes_whole (box_at layout.grid index).shape ≡ Some whole))
+-- a chunk of this shape has more bytes than a usize counts, or so has its fill, where its bytes leave out cells
+abbrev pub IsTooLargeWhole : Layout → List ℕ → List ℕ → Type 0
+IsTooLargeWhole layout shape encoded =
+    (2 ^ 64 ≤ position_count shape * cell_size layout.kind)
+    ⊎ ((layout.chain.leaves_out shape encoded ≡ true) × (2 ^ 64 ≤ position_count shape * held_size layout.kind layout.fill))
 
--- the chunk is present, and what a read of the region decodes whole of it has more bytes than a usize counts, or so has its
--- fill where the bytes leave out cells
+-- the chunk is present, and something that a read of the region decodes whole is too large: all of the chunk, if the region
+-- covers it; for a part of it the chunk or a subchunk that the part meets, as the chain says
 pub record IsTooLargeToRead (layout : Layout) (region : Box) (index : List ℕ) (state : StoreState) : Type 0 where
   pub encoded : List ℕ
   pub stands : value_at state (layout.key index) ≡ Some encoded
-  pub whole : List ℕ
-  pub decoded_whole : IsDecodedWhole layout region index whole
-  pub large : (2 ^ 64 ≤ position_count whole * cell_size layout.kind)
-      ⊎ ((layout.chain.leaves_out (box_at layout.grid index).shape encoded ≡ true) × (2 ^ 64 ≤ position_count whole * held_size layout.kind layout.fill))
+  pub large : (CoversBox region (box_at layout.grid index) × IsTooLargeWhole layout (box_at layout.grid index).shape encoded)
+      ⊎ (IsPart layout region index × IsTooLargeToDecode layout.chain layout.kind layout.fill (box_at layout.grid index).shape
+      (chunk_part region (box_at layout.grid index)) encoded)
 
 -- Why a region is not read: some key of its chunks refuses (E7), some chunk does not decode (E4), a size (E8): of what is
 -- decoded whole of some chunk, or of the region's cells; out of memory (E9). Which of these comes if several hold is open.

@@ -17,23 +17,23 @@ use Rattle.zarrs_engine_calls.specs.Refusals.{refusal_of}
 use Rattle.zarrs_engine_layout.specs.Steps.{RefusesPartBytes}
 
 -- what the chain or the source refuses, the call refuses
-pub part_refused : (layout : Layout) (box : Box) (encoded : List ℕ) (refuses : Bool) (e : PartError)
-    → RefusesPartDecoding (decoded_cells layout box encoded) (IsTooLargeToDecode layout.chain layout.kind layout.fill box.shape encoded) refuses e
-    → RefusesPartBytes layout box encoded refuses (refusal_of (error_of_part e))
-part_refused layout box encoded refuses (part.Codec (codec.DoesNotFit _)) why = why
-part_refused layout box encoded refuses (part.Codec codec.SizeOverflow) why = why
-part_refused layout box encoded refuses (part.Codec codec.OutOfMemory) why = tt
-part_refused layout box encoded refuses (part.Source storage.OutOfMemory) why = tt
-part_refused layout box encoded refuses (part.Source (storage.InvalidMetadata key said)) (inl is) = absurd (cc)
-part_refused layout box encoded refuses (part.Source (storage.InvalidMetadata key said)) (inr is) = is
-part_refused layout box encoded refuses (part.Source storage.ReadOnly) (inl is) = absurd (cc)
-part_refused layout box encoded refuses (part.Source storage.ReadOnly) (inr is) = is
-part_refused layout box encoded refuses (part.Source storage.InvalidByteRange) (inl is) = absurd (cc)
-part_refused layout box encoded refuses (part.Source storage.InvalidByteRange) (inr is) = is
-part_refused layout box encoded refuses (part.Source storage.Exhausted) (inl is) = absurd (cc)
-part_refused layout box encoded refuses (part.Source storage.Exhausted) (inr is) = is
-part_refused layout box encoded refuses (part.Source (storage.Other said)) (inl is) = absurd (cc)
-part_refused layout box encoded refuses (part.Source (storage.Other said)) (inr is) = is
+pub part_refused : (layout : Layout) (box piece : Box) (encoded : List ℕ) (refuses : Bool) (e : PartError)
+    → RefusesPartDecoding (decoded_cells layout box encoded) (IsTooLargeToDecode layout.chain layout.kind layout.fill box.shape piece encoded) refuses e
+    → RefusesPartBytes layout box piece encoded refuses (refusal_of (error_of_part e))
+part_refused layout box piece encoded refuses (part.Codec (codec.DoesNotFit _)) why = why
+part_refused layout box piece encoded refuses (part.Codec codec.SizeOverflow) why = why
+part_refused layout box piece encoded refuses (part.Codec codec.OutOfMemory) why = tt
+part_refused layout box piece encoded refuses (part.Source storage.OutOfMemory) why = tt
+part_refused layout box piece encoded refuses (part.Source (storage.InvalidMetadata key said)) (inl is) = absurd (cc)
+part_refused layout box piece encoded refuses (part.Source (storage.InvalidMetadata key said)) (inr is) = is
+part_refused layout box piece encoded refuses (part.Source storage.ReadOnly) (inl is) = absurd (cc)
+part_refused layout box piece encoded refuses (part.Source storage.ReadOnly) (inr is) = is
+part_refused layout box piece encoded refuses (part.Source storage.InvalidByteRange) (inl is) = absurd (cc)
+part_refused layout box piece encoded refuses (part.Source storage.InvalidByteRange) (inr is) = is
+part_refused layout box piece encoded refuses (part.Source storage.Exhausted) (inl is) = absurd (cc)
+part_refused layout box piece encoded refuses (part.Source storage.Exhausted) (inr is) = is
+part_refused layout box piece encoded refuses (part.Source (storage.Other said)) (inl is) = absurd (cc)
+part_refused layout box piece encoded refuses (part.Source (storage.Other said)) (inr is) = is
 
 -- the window of all bytes
 pub whole_window : (window : Window) (bytes : List ℕ) → window.offset ≡ 0 → window.len ≡ length bytes → window_bytes window bytes ≡ bytes

@@ -1,5 +1,5 @@
 -- Refusals of reads of regions.
-use Rattle.std.proofs.Common.{◌≡◌, ◌⊎◌, ◌<◌, ◌≤◌, ◌*◌, ◌^◌, nat_le, ◌==◌, ◌||◌, not, ℕ, zero, suc, Bool, true, false, cond, List, [], ◌∷◌, length}
+use Rattle.std.proofs.Common.{◌≡◌, ◌<◌, ◌≤◌, ◌*◌, ◌^◌, nat_le, ◌==◌, ◌||◌, not, ℕ, zero, suc, Bool, true, false, cond, List, [], ◌∷◌, length}
 use Rattle.std.proofs.Common.{slice_index, is_some, Some, None, Contains, refl, sym, ◌∙◌, ap, subst, inl, inr, arith}
 use Rattle.std.specs.List.{list_any}
 use Rattle.std.proofs.lemmas.Bool.{cases_Bool, eq-eqb, leb-true, ne_eqb}
@@ -16,13 +16,13 @@ use Rattle.zarrs_data_type.specs.Kind.{cell_size}
 use Rattle.zarrs_codec_chain.specs.Refusals.{IsTooLargeToDecode}
 use Rattle.zarrs_engine_calls.specs.Layout.{Layout, IsLawful}
 use Rattle.zarrs_engine_calls.specs.Content.{value_at, decoded_cells}
-use Rattle.zarrs_engine_calls.specs.ChunkBoxes.{CoversBox, is_covered_box, is_empty, last_of}
+use Rattle.zarrs_engine_calls.specs.ChunkBoxes.{CoversBox, chunk_part, is_covered_box, is_empty, last_of}
 use Rattle.zarrs_engine_calls.specs.ArgumentRefusals.{size_refusal, region_refusal}
 use Rattle.zarrs_engine_calls.specs.Reads.{ReadsRegion}
 use Rattle.zarrs_engine_calls.specs.Refusals as refusal
 use Rattle.std.specs.Option.{option_or}
 use Rattle.zarrs_engine_calls.specs.Refusals.{Refusal, RefusesBy, refuse_if, box_refusal, fill_refusal, key_refusal, length_refusal, is_too_large}
-use Rattle.zarrs_engine_calls.specs.StateRefusals.{IsPart, RefusesRegionRead, RefusesSomeChunk}
+use Rattle.zarrs_engine_calls.specs.StateRefusals.{IsPart, IsTooLargeWhole, RefusesRegionRead, RefusesSomeChunk}
 use Rattle.zarrs_engine_calls.specs.Step.{RetrievesRegion, RefusesRetrieveRegion}
 use Rattle.zarrs_engine_calls.proofs.Contents.{member, only_member}
 use Rattle.zarrs_engine_calls.proofs.Covers.{covered_box, last_covers}
@@ -71,17 +71,14 @@ module _ (layout : Layout) (region : Box) (index : List ℕ) (state : StoreState
 
   -- a part of a chunk that is present is not decoded, for a size
   pub some_large : (encoded : List ℕ) → value_at state (layout.key index) ≡ Some encoded → IsPart layout region index
-      → IsTooLargeToDecode layout.chain layout.kind layout.fill (box_at layout.grid index).shape encoded → RefusesSomeChunk layout region (index ∷ []) state refusal.size_overflow
-  some_large encoded stands part (whole, is, large) =
-      inl (index, member index, record { encoded = encoded; stands = stands; whole = whole; decoded_whole = inr (part, is); large = large })
+      → IsTooLargeToDecode layout.chain layout.kind layout.fill (box_at layout.grid index).shape (chunk_part region (box_at layout.grid index)) encoded
+      → RefusesSomeChunk layout region (index ∷ []) state refusal.size_overflow
+  some_large encoded stands part large = inl (index, member index, record { encoded = encoded; stands = stands; large = inr (part, large) })
 
   module _ (covers : CoversBox region (box_at layout.grid index)) (encoded : List ℕ) (stands : value_at state (layout.key index) ≡ Some encoded) where
     -- a chunk that is present, and that the region covers, is too large
-    some_whole : (2 ^ 64 ≤ position_count (box_at layout.grid index).shape * cell_size layout.kind)
-        ⊎ ((layout.chain.leaves_out (box_at layout.grid index).shape encoded ≡ true) × (2 ^ 64 ≤ position_count (box_at layout.grid index).shape * held_size layout.kind layout.fill))
-        → RefusesSomeChunk layout region (index ∷ []) state refusal.size_overflow
-    some_whole large =
-        inl (index, member index, record { encoded = encoded; stands = stands; whole = (box_at layout.grid index).shape; decoded_whole = inl (covers, refl); large = large })
+    some_whole : IsTooLargeWhole layout (box_at layout.grid index).shape encoded → RefusesSomeChunk layout region (index ∷ []) state refusal.size_overflow
+    some_whole large = inl (index, member index, record { encoded = encoded; stands = stands; large = inl (covers, large) })
 
     pub some_size : (r : Refusal) → RefusesBy (box_refusal layout index) r → RefusesSomeChunk layout region (index ∷ []) state r
     some_size r h = elim (memory_or_said _ r h) [

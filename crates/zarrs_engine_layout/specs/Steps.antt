@@ -45,14 +45,14 @@ abbrev pub RefusesBytes : Layout → (index encoded : List ℕ) → Refusal → 
 RefusesBytes layout index encoded r =
     RefusesBy (read_refusal layout true index (Some encoded)) r ⊎ ((r ≡ size_overflow) × LeaveOutCells layout index encoded)
 
--- A part of a chunk of this box is not decoded: the source of its bytes refuses (E7), they do not decode (E4), or what is
--- decoded whole of them is too large, or its fill where they leave out cells (E8). Out of memory may come at any time.
-abbrev pub RefusesPartBytes : Layout → (box : Box) (encoded : List ℕ) (refuses : Bool) → Refusal → Type 0
-RefusesPartBytes layout box encoded refuses storage = refuses ≡ true
-RefusesPartBytes layout box encoded refuses codec = decoded_cells layout box encoded ≡ None
-RefusesPartBytes layout box encoded refuses size_overflow = IsTooLargeToDecode layout.chain layout.kind layout.fill box.shape encoded
-RefusesPartBytes layout box encoded refuses out_of_memory = Unit {0}
-RefusesPartBytes layout box encoded refuses _ = ⊥
+-- A part of a chunk of this box is not decoded: the source of its bytes refuses (E7), they do not decode (E4), or something
+-- that is decoded whole for the part is too large (E8). Out of memory may come at any time.
+abbrev pub RefusesPartBytes : Layout → (box part : Box) (encoded : List ℕ) (refuses : Bool) → Refusal → Type 0
+RefusesPartBytes layout box part encoded refuses storage = refuses ≡ true
+RefusesPartBytes layout box part encoded refuses codec = decoded_cells layout box encoded ≡ None
+RefusesPartBytes layout box part encoded refuses size_overflow = IsTooLargeToDecode layout.chain layout.kind layout.fill box.shape part encoded
+RefusesPartBytes layout box part encoded refuses out_of_memory = Unit {0}
+RefusesPartBytes layout box part encoded refuses _ = ⊥
 
 -- the data is the cells of a chunk of this box, and this is what is to be present at its key
 pub record HasValue (layout : Layout) (keep : Bool) (box : Box) (held : ArrayData) (value : Option (List ℕ)) : Type 0 where

@@ -1,9 +1,8 @@
 //! The parts of an array beside its store, and what they say of one chunk.
-ghost use Rattle.std.specs.Prelude.{IsSome, ◌≡◌};
+ghost use Rattle.std.specs.Prelude.{◌≡◌};
 ghost use Rattle.zarrs_subset.specs.Boxes.{position_count};
 ghost use Rattle.zarrs_subset.specs.Regions.{box_of};
 ghost use Rattle.zarrs_data_type.specs.Kind.{kind};
-ghost use Rattle.zarrs_data_type.specs.Cell.{fill_cell};
 ghost use Rattle.zarrs_engine_calls.specs.Layout.{IsLawful, layout_at};
 ghost use Rattle.zarrs_engine_layout.specs.Steps.{RefusesIndices};
 ghost use Rattle.zarrs_engine_calls.specs.Lawful.{IsLawful-prop};
@@ -12,7 +11,7 @@ use std::alloc::Global;
 use zarrs_chunk_grid::ChunkGridTraits;
 use zarrs_codec_chain::{ChainTraits, CodecOptions};
 use zarrs_codec_leaf::CodecError;
-use zarrs_data_type::{ArrayBytes, DataType, FillValue};
+use zarrs_data_type::{ArrayBytes, CellType, ChunkType};
 use zarrs_engine_calls::ArrayError;
 use zarrs_keys::{ChunkKeyEncodingTraits, NodePath, chunk_key};
 use zarrs_storage::{StorageError, StoreKey};
@@ -29,14 +28,12 @@ pub struct ArrayLayout<G: ChunkGridTraits, K: ChunkKeyEncodingTraits, C: ChainTr
     pub keys: K,
     /// How the cells of a chunk become bytes.
     pub chain: C,
-    /// The type of the cells.
-    pub data_type: DataType,
-    /// The bytes of the value of a cell that was never written. They are a value of the type.
-    pub fill_value: FillValue,
+    /// The type of the cells, and the value of a cell that was never written.
+    pub cell_type: CellType,
     ghost lawful: { IsLawful (layout_at (G.grid grid) path (K.key keys) (C.meaning chain)
-        (kind data_type) fill_value) } by { IsLawful-prop (layout_at (G.grid grid) path
-            (K.key keys) (C.meaning chain) (kind data_type) fill_value) },
-    ghost filled: { IsSome (fill_cell (kind data_type) fill_value) },
+        (kind cell_type.data_type) cell_type.fill_value) } by { IsLawful-prop (layout_at
+            (G.grid grid) path (K.key keys) (C.meaning chain) (kind cell_type.data_type)
+            cell_type.fill_value) },
 }
 
 /// The box of a chunk, and the number of its cells.
@@ -130,11 +127,11 @@ impl<G: ChunkGridTraits, K: ChunkKeyEncodingTraits, C: ChainTraits> ArrayLayout<
         ensures accepted { OnOk result
             (data_refusal (layout_meaning self.now) (stores_empty_chunks options.now)
             (box_of chunk.now.region).shape
-            (cells (kind self.now.data_type) (data_of chunk_data.now)) ≡ None) }
+            (cells (layout_meaning self.now).kind (data_of chunk_data.now)) ≡ None) }
         ensures refused { IfErr result
             (λ e. RefusesBy (data_refusal (layout_meaning self.now)
             (stores_empty_chunks options.now) (box_of chunk.now.region).shape
-            (cells (kind self.now.data_type) (data_of chunk_data.now))) (refusal_of e)) }
+            (cells (layout_meaning self.now).kind (data_of chunk_data.now))) (refusal_of e)) }
     {
         self.value_in(
             alloc,
@@ -166,12 +163,12 @@ impl<G: ChunkGridTraits, K: ChunkKeyEncodingTraits, C: ChainTraits> ArrayLayout<
         ensures accepted { OnOk result
             (data_refusal (layout_meaning self.now) (stores_empty_chunks options.now)
             (box_at (G.grid self.now.grid) chunk_indices.now).shape
-            (cells (kind self.now.data_type) (data_of chunk_data.now)) ≡ None) }
+            (cells (layout_meaning self.now).kind (data_of chunk_data.now)) ≡ None) }
         ensures refused { IfErr result (λ e. RefusesBy (option_or
             (box_refusal (layout_meaning self.now) chunk_indices.now)
             (data_refusal (layout_meaning self.now) (stores_empty_chunks options.now)
             (box_at (G.grid self.now.grid) chunk_indices.now).shape
-            (cells (kind self.now.data_type) (data_of chunk_data.now)))) (refusal_of e)) }
+            (cells (layout_meaning self.now).kind (data_of chunk_data.now)))) (refusal_of e)) }
     {
         let chunk = self.chunk_extents(alloc, chunk_indices)?;
         self.value_in(
@@ -201,23 +198,20 @@ impl<G: ChunkGridTraits, K: ChunkKeyEncodingTraits, C: ChainTraits> ArrayLayout<
             (box_at_origin shape.now) (data_of chunk_data.now) (option_map (λ v. v.items) value)) }
         ensures accepted { OnOk result
             (data_refusal (layout_meaning self.now) (stores_empty_chunks options.now) shape.now
-            (cells (kind self.now.data_type) (data_of chunk_data.now)) ≡ None) }
+            (cells (layout_meaning self.now).kind (data_of chunk_data.now)) ≡ None) }
         ensures refused { IfErr result
             (λ e. RefusesBy (data_refusal (layout_meaning self.now)
             (stores_empty_chunks options.now) shape.now
-            (cells (kind self.now.data_type) (data_of chunk_data.now))) (refusal_of e)) }
+            (cells (layout_meaning self.now).kind (data_of chunk_data.now))) (refusal_of e)) }
     {
         if self.leaves_out(count, chunk_data, options)? {
             return Ok(None);
         }
-        let encoded = self.chain.encode(
-            alloc,
-            chunk_data,
-            &self.data_type,
-            &self.fill_value,
+        let chunk = ChunkType {
+            cell_type: &self.cell_type,
             shape,
-            options,
-        )?;
+        };
+        let encoded = self.chain.encode(alloc, chunk_data, &chunk, options)?;
         Ok(Some(encoded))
     }
 
@@ -240,23 +234,20 @@ impl<G: ChunkGridTraits, K: ChunkKeyEncodingTraits, C: ChainTraits> ArrayLayout<
         ensures accepted { OnOk result
             (data_refusal (layout_meaning self.now) (stores_empty_chunks options.now)
             (box_of chunk.now.region).shape
-            (cells (kind self.now.data_type) (data_of chunk_data.entry)) ≡ None) }
+            (cells (layout_meaning self.now).kind (data_of chunk_data.entry)) ≡ None) }
         ensures refused { IfErr result
             (λ e. RefusesBy (data_refusal (layout_meaning self.now)
             (stores_empty_chunks options.now) (box_of chunk.now.region).shape
-            (cells (kind self.now.data_type) (data_of chunk_data.entry))) (refusal_of e)) }
+            (cells (layout_meaning self.now).kind (data_of chunk_data.entry))) (refusal_of e)) }
     {
         if self.leaves_out(chunk.count, &chunk_data, options)? {
             return Ok(None);
         }
-        let encoded = self.chain.encode_owned(
-            alloc,
-            chunk_data,
-            &self.data_type,
-            &self.fill_value,
-            chunk.region.shape(),
-            options,
-        )?;
+        let chunk = ChunkType {
+            cell_type: &self.cell_type,
+            shape: chunk.region.shape(),
+        };
+        let encoded = self.chain.encode_owned(alloc, chunk_data, &chunk, options)?;
         Ok(Some(encoded))
     }
 
@@ -271,24 +262,25 @@ impl<G: ChunkGridTraits, K: ChunkKeyEncodingTraits, C: ChainTraits> ArrayLayout<
         chunk_data: &ArrayBytes<'_>,
         options: &CodecOptions,
     ) -> Result<bool, ArrayError>
-        ensures cells { OnOk result (HasCells (kind self.now.data_type) (data_of chunk_data.now)
+        ensures cells { OnOk result (HasCells (layout_meaning self.now).kind (data_of chunk_data.now)
             count) }
         ensures left { IfOk result
-            (λ left. IsSomeAnd (cells (kind self.now.data_type) (data_of chunk_data.now))
+            (λ left. IsSomeAnd (cells (layout_meaning self.now).kind (data_of chunk_data.now))
             (λ cs. left ≡ is_left_out (layout_meaning self.now) (stores_empty_chunks options.now)
             cs)) }
         ensures refused { IfErr result (λ e. (keep : Bool) (shape : List ℕ)
             → position_count shape ≡ count → data_refusal (layout_meaning self.now) keep shape
-            (cells (kind self.now.data_type) (data_of chunk_data.now)) ≡ Some (refusal_of e)) }
+            (cells (layout_meaning self.now).kind (data_of chunk_data.now)) ≡ Some (refusal_of e)) }
     {
-        if !chunk_data.validate(&self.data_type, count) {
+        if !chunk_data.validate(&self.cell_type.data_type, count) {
             let misfit = self.misfit_of(chunk_data, count);
             return Err(ArrayError::CodecError(CodecError::DoesNotFit(misfit)));
         }
-        Ok(
-            !options.store_empty_chunks()
-                && chunk_data.is_fill_value(&self.data_type, &self.fill_value),
-        )
+        let CellType {
+            data_type,
+            fill_value,
+        } = &self.cell_type;
+        Ok(!options.store_empty_chunks() && chunk_data.is_fill_value(data_type, fill_value))
     }
 
     /// Returns the cells of the bytes of the chunk with these indices. They may be lent by these bytes.
@@ -304,7 +296,7 @@ impl<G: ChunkGridTraits, K: ChunkKeyEncodingTraits, C: ChainTraits> ArrayLayout<
         chunk_indices: &[u64],
         encoded: &'a [u8],
     ) -> Result<ArrayBytes<'a>, ArrayError>
-        ensures cells { IfOk result (λ made. cells (kind self.now.data_type) (data_of made)
+        ensures cells { IfOk result (λ made. cells (layout_meaning self.now).kind (data_of made)
             ≡ decoded_cells (layout_meaning self.now)
             (box_at (G.grid self.now.grid) chunk_indices.now) encoded.now) }
         ensures accepted { OnOk result
@@ -314,11 +306,12 @@ impl<G: ChunkGridTraits, K: ChunkKeyEncodingTraits, C: ChainTraits> ArrayLayout<
             (λ e. RefusesBytes (layout_meaning self.now) chunk_indices.now encoded.now
             (refusal_of e)) }
     {
-        let chunk = self.chunk_extents(alloc, chunk_indices)?;
-        let shape = chunk.shape.as_slice();
-        let data = self
-            .chain
-            .decode(alloc, encoded, &self.data_type, &self.fill_value, shape)?;
+        let extents = self.chunk_extents(alloc, chunk_indices)?;
+        let chunk = ChunkType {
+            cell_type: &self.cell_type,
+            shape: extents.shape.as_slice(),
+        };
+        let data = self.chain.decode(alloc, encoded, &chunk)?;
         Ok(data)
     }
 
@@ -332,7 +325,7 @@ impl<G: ChunkGridTraits, K: ChunkKeyEncodingTraits, C: ChainTraits> ArrayLayout<
         alloc: Global,
         chunk_indices: &[u64],
     ) -> Result<ArrayBytes<'static>, ArrayError>
-        ensures cells { IfOk result (λ made. cells (kind self.now.data_type) (data_of made)
+        ensures cells { IfOk result (λ made. cells (layout_meaning self.now).kind (data_of made)
             ≡ Some (replicate
             (position_count (box_at (G.grid self.now.grid) chunk_indices.now).shape)
             (layout_meaning self.now).fill)) }

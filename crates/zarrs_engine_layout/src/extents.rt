@@ -38,7 +38,7 @@ impl<G: ChunkGridTraits, K: ChunkKeyEncodingTraits, C: ChainTraits> ArrayLayout<
         let Some(count) = element_count(shape) else {
             return None;
         };
-        let size = self.data_type.fixed_size().unwrap_or(1);
+        let size = self.cell_type.data_type.fixed_size().unwrap_or(1);
         match count.checked_mul(size as u64) {
             Some(_) => Some(count),
             None => None,

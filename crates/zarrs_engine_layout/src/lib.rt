@@ -1,6 +1,6 @@
 //! The parts of an array beside its store, and what they alone decide of a call, before the store is asked.
 //!
-//! `zarrs_engine` uses `ArrayLayout`: a grid, a path, a key encoding, a chain, a data type and a fill value. It gives
+//! `zarrs_engine` uses `ArrayLayout`: a grid, a path, a key encoding, a chain and a cell type. It gives
 //! the chunks that a region meets (`chunks_met`), and the key, the value and the cells of a chunk. It refuses bad
 //! arguments. `shared_in` and `part_in_chunk` are what a region and a chunk share, and `CutWalk` finds the chunks that a
 //! new shape cuts.

@@ -4,7 +4,7 @@ use std::alloc::Global;
 use zarrs_chunk_grid::ChunkGridTraits;
 use zarrs_codec_chain::ChainTraits;
 use zarrs_codec_leaf::{ByteSource, Window};
-use zarrs_data_type::{ArrayBytes, ArrayBytesDecodeIntoTarget};
+use zarrs_data_type::{ArrayBytes, ArrayBytesDecodeIntoTarget, ChunkType};
 use zarrs_engine_calls::ArrayError;
 use zarrs_keys::ChunkKeyEncodingTraits;
 use zarrs_subset::ArraySubset;
@@ -15,7 +15,7 @@ impl<G: ChunkGridTraits, K: ChunkKeyEncodingTraits, C: ChainTraits> ArrayLayout<
     ghost use Rattle.zarrs_subset.specs.Regions.{box_at_origin, box_of, LiesInShape};
     ghost use Rattle.zarrs_data_type.specs.ArrayData.{data_of};
     ghost use Rattle.zarrs_data_type.specs.Cell.{held_size};
-    ghost use Rattle.zarrs_data_type.specs.States.{IsTarget, SameBox, StaysOutside, data_of_target};
+    ghost use Rattle.zarrs_data_type.specs.States.{KeepsTarget, data_of_target};
     ghost use Rattle.zarrs_data_type.specs.States.{parent_box, target_box};
     ghost use Rattle.zarrs_data_type.specs.Targets.{takes_type};
     ghost use Rattle.zarrs_codec_chain.specs.Parts.{DecodesPart, DecodesPartAt};
@@ -29,8 +29,8 @@ impl<G: ChunkGridTraits, K: ChunkKeyEncodingTraits, C: ChainTraits> ArrayLayout<
     ///
     /// # Errors
     /// One of these: E4 if the bytes do not decode, though a part of them may; E7 if the source refuses; E8 if what the
-    /// chain decodes whole, the chunk or a subchunk, has more bytes than a `usize` counts, or so has its fill where the
-    /// bytes leave out cells. E9 may come at any time.
+    /// chain decodes whole for the part, the chunk or a subchunk that the part meets, has more bytes than a `usize`
+    /// counts, or so has its fill where its bytes leave out cells. E9 may come at any time.
     pub fn decode_part<B: ByteSource>(
         &self,
         alloc: Global,
@@ -47,22 +47,20 @@ impl<G: ChunkGridTraits, K: ChunkKeyEncodingTraits, C: ChainTraits> ArrayLayout<
             shape.now (box_of part.now) (decoded_cells (layout_meaning self.now)
             (box_at_origin shape.now) (B.bytes source.now)) (data_of made)) }
         ensures refused { IfErr result (λ e. RefusesPartBytes (layout_meaning self.now)
-            (box_at_origin shape.now) (B.bytes source.now) (B.refuses source.now)
-            (refusal_of e)) }
+            (box_at_origin shape.now) (box_of part.now) (B.bytes source.now)
+            (B.refuses source.now) (refusal_of e)) }
     {
         let whole = Window {
             offset: 0,
             len: source.size(),
         };
-        let data = self.chain.partial_decode(
-            alloc,
-            source,
-            whole,
-            part,
-            &self.data_type,
-            &self.fill_value,
+        let chunk = ChunkType {
+            cell_type: &self.cell_type,
             shape,
-        )?;
+        };
+        let data = self
+            .chain
+            .partial_decode(alloc, source, whole, part, &chunk)?;
         Ok(data)
     }
 
@@ -84,36 +82,28 @@ impl<G: ChunkGridTraits, K: ChunkKeyEncodingTraits, C: ChainTraits> ArrayLayout<
         requires may_read { (place : ℕ) → (layout_meaning self.now).chain.places
             (layout_meaning self.now).kind shape.now (box_of part.now)
             (B.bytes source.now) place ≡ true → B.may_read source.now place ≡ true }
-        requires target { IsTarget target.old }
         requires takes { takes_type target.old.cell_size target.old.depth
             (layout_meaning self.now).kind ≡ true }
         requires same_shape { (target_box target.old).shape ≡ (box_of part.now).shape }
-        ensures target { IsTarget target.new }
-        ensures same_bytes { target.new.bytes.ghost_name ≡ target.old.bytes.ghost_name }
-        ensures same_masks { target.new.masks.ghost_name ≡ target.old.masks.ghost_name }
-        ensures same_box { SameBox target.old target.new }
+        ensures kept { KeepsTarget target.old target.new }
         ensures cells { OnOk result (DecodesPartAt (layout_meaning self.now).kind
             shape.now (box_of part.now) (decoded_cells (layout_meaning self.now)
             (box_at_origin shape.now) (B.bytes source.now)) (parent_box target.old)
             (target_box target.old) (data_of_target target.new)) }
-        ensures outside { StaysOutside target.old target.new }
         ensures refused { IfErr result (λ e. RefusesPartBytes (layout_meaning self.now)
-            (box_at_origin shape.now) (B.bytes source.now) (B.refuses source.now) (refusal_of e)) }
+            (box_at_origin shape.now) (box_of part.now) (B.bytes source.now)
+            (B.refuses source.now) (refusal_of e)) }
     {
         let whole = Window {
             offset: 0,
             len: source.size(),
         };
-        self.chain.partial_decode_into(
-            alloc,
-            source,
-            whole,
-            part,
-            &self.data_type,
-            &self.fill_value,
+        let chunk = ChunkType {
+            cell_type: &self.cell_type,
             shape,
-            target,
-        )?;
+        };
+        self.chain
+            .partial_decode_into(alloc, source, whole, part, &chunk, target)?;
         Ok(())
     }
 }

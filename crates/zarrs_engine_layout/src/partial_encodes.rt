@@ -4,7 +4,7 @@ use std::alloc::Global;
 use zarrs_chunk_grid::ChunkGridTraits;
 use zarrs_codec_chain::{ChainTraits, CodecOptions};
 use zarrs_codec_shard::PartialWrite;
-use zarrs_data_type::ArrayBytes;
+use zarrs_data_type::{ArrayBytes, ChunkType};
 use zarrs_engine_calls::ArrayError;
 use zarrs_keys::ChunkKeyEncodingTraits;
 use zarrs_subset::ArraySubset;
@@ -13,7 +13,6 @@ impl<G: ChunkGridTraits, K: ChunkKeyEncodingTraits, C: ChainTraits> ArrayLayout<
     ghost use Rattle.std.specs.Prelude.{◌≡◌, true, length, Some, IfOk, IfErr, option_map};
     ghost use Rattle.zarrs_subset.specs.Boxes.{position_count};
     ghost use Rattle.zarrs_subset.specs.Regions.{box_of};
-    ghost use Rattle.zarrs_data_type.specs.Kind.{kind};
     ghost use Rattle.zarrs_data_type.specs.ArrayData.{data_of};
     ghost use Rattle.zarrs_data_type.specs.Cells.{HasCells};
     ghost use Rattle.zarrs_codec_shard.specs.ShardPatches.{change_of};
@@ -47,7 +46,7 @@ impl<G: ChunkGridTraits, K: ChunkKeyEncodingTraits, C: ChainTraits> ArrayLayout<
     ) -> Result<PartialWrite, ArrayError>
         requires supported { (layout_meaning self.now).chain.encodes_partly ≡ true }
         requires dimensions { length (box_of part.now).start ≡ length (box_of chunk.now).shape }
-        requires cells { HasCells (kind self.now.data_type) (data_of part_data.now)
+        requires cells { HasCells (layout_meaning self.now).kind (data_of part_data.now)
             (position_count (box_of part.now).shape) }
         ensures written { IfOk result (λ write.
             partial_encoding (layout_meaning self.now).chain (stores_empty_chunks options.now)
@@ -59,16 +58,13 @@ impl<G: ChunkGridTraits, K: ChunkKeyEncodingTraits, C: ChainTraits> ArrayLayout<
             (option_map (λ encoded. encoded.now) stored.entry) (box_of part.now)
             (data_of part_data.now) (refusal_of e)) }
     {
-        let write = self.chain.partial_encode(
-            alloc,
-            stored,
-            part,
-            part_data,
-            &self.data_type,
-            &self.fill_value,
-            chunk.shape(),
-            options,
-        )?;
+        let chunk = ChunkType {
+            cell_type: &self.cell_type,
+            shape: chunk.shape(),
+        };
+        let write = self
+            .chain
+            .partial_encode(alloc, stored, part, part_data, &chunk, options)?;
         Ok(write)
     }
 }

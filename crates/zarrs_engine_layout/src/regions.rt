@@ -4,7 +4,7 @@ use std::alloc::Global;
 use zarrs_chunk_grid::{ChunkGridTraits, GridError};
 use zarrs_codec_chain::ChainTraits;
 use zarrs_codec_leaf::{CodecError, Misfit};
-use zarrs_data_type::ArrayBytes;
+use zarrs_data_type::{ArrayBytes, CellType};
 use zarrs_engine_calls::ArrayError;
 use zarrs_keys::ChunkKeyEncodingTraits;
 use zarrs_subset::ArraySubset;
@@ -14,7 +14,6 @@ impl<G: ChunkGridTraits, K: ChunkKeyEncodingTraits, C: ChainTraits> ArrayLayout<
     ghost use Rattle.zarrs_subset.specs.Boxes.{position_count};
     ghost use Rattle.zarrs_subset.specs.Regions.{box_of, positions};
     ghost use Rattle.zarrs_chunk_grid.specs.Grids.{met};
-    ghost use Rattle.zarrs_data_type.specs.Kind.{kind};
     ghost use Rattle.zarrs_data_type.specs.ArrayData.{data_of};
     ghost use Rattle.zarrs_data_type.specs.Cells.{HasCells, cells, count_of};
     ghost use Rattle.zarrs_engine_calls.specs.ArgumentRefusals.{box_data_refusal};
@@ -73,7 +72,7 @@ impl<G: ChunkGridTraits, K: ChunkKeyEncodingTraits, C: ChainTraits> ArrayLayout<
         alloc: Global,
         region: &ArraySubset,
     ) -> Result<ArrayBytes<'static>, ArrayError>
-        ensures cells { IfOk result (λ made. cells (kind self.now.data_type) (data_of made)
+        ensures cells { IfOk result (λ made. cells (layout_meaning self.now).kind (data_of made)
             ≡ Some (replicate (position_count (box_of region.now).shape)
             (layout_meaning self.now).fill)) }
         ensures accepted { OnOk result
@@ -96,17 +95,21 @@ impl<G: ChunkGridTraits, K: ChunkKeyEncodingTraits, C: ChainTraits> ArrayLayout<
         alloc: Global,
         count: u64,
     ) -> Result<ArrayBytes<'static>, ArrayError>
-        ensures cells { IfOk result (λ made. cells (kind self.now.data_type) (data_of made)
+        ensures cells { IfOk result (λ made. cells (layout_meaning self.now).kind (data_of made)
             ≡ Some (replicate count (layout_meaning self.now).fill)) }
         ensures accepted { OnOk result (fills_refusal (layout_meaning self.now) count ≡ None) }
         ensures refused { IfErr result
             (λ e. RefusesBy (fills_refusal (layout_meaning self.now) count) (refusal_of e)) }
     {
-        let cell_size = self.data_type.held_size(self.fill_value.as_bytes());
+        let CellType {
+            data_type,
+            fill_value,
+        } = &self.cell_type;
+        let cell_size = data_type.held_size(fill_value.as_bytes());
         if count.checked_mul(cell_size as u64).is_none() {
             return Err(ArrayError::SizeOverflow);
         }
-        let data = ArrayBytes::new_fill_value(alloc, &self.data_type, count, &self.fill_value)?;
+        let data = ArrayBytes::new_fill_value(alloc, data_type, count, fill_value)?;
         Ok(data)
     }
 
@@ -136,10 +139,10 @@ impl<G: ChunkGridTraits, K: ChunkKeyEncodingTraits, C: ChainTraits> ArrayLayout<
 
     /// Returns the number of cells of data of the type's kind.
     fn count_of(&self, region_data: &ArrayBytes<'_>) -> u64
-        ensures { result ≡ count_of (kind self.now.data_type) (data_of region_data.now) }
+        ensures { result ≡ count_of (layout_meaning self.now).kind (data_of region_data.now) }
     {
         match region_data {
-            ArrayBytes::Fixed(bytes) => match self.data_type.element_size() {
+            ArrayBytes::Fixed(bytes) => match self.cell_type.data_type.element_size() {
                 Some(size) => (bytes.as_slice().len() / size) as u64,
                 None => 0,
             },
@@ -150,12 +153,12 @@ impl<G: ChunkGridTraits, K: ChunkKeyEncodingTraits, C: ChainTraits> ArrayLayout<
 
     /// Returns whether the data is one cell for each position of the region, each a value of the data type.
     fn has_cells(&self, region: &ArraySubset, region_data: &ArrayBytes<'_>) -> bool
-        ensures { IsTrue result ↔ HasCells (kind self.now.data_type) (data_of region_data.now)
+        ensures { IsTrue result ↔ HasCells (layout_meaning self.now).kind (data_of region_data.now)
             (position_count (box_of region.now).shape) }
     {
         let count = self.count_of(region_data);
         match region.num_elements() {
-            Ok(wanted) => wanted == count && region_data.validate(&self.data_type, count),
+            Ok(wanted) => wanted == count && region_data.validate(&self.cell_type.data_type, count),
             Err(_) => false,
         }
     }
@@ -171,7 +174,7 @@ impl<G: ChunkGridTraits, K: ChunkKeyEncodingTraits, C: ChainTraits> ArrayLayout<
         region: &ArraySubset,
         region_data: &ArrayBytes<'_>,
     ) -> Result<(), ArrayError>
-        ensures given { OnOk result (HasCells (kind self.now.data_type) (data_of region_data.now)
+        ensures given { OnOk result (HasCells (layout_meaning self.now).kind (data_of region_data.now)
             (position_count (box_of region.now).shape)) }
         ensures accepted { OnOk result (box_data_refusal (layout_meaning self.now) is_whole
             (box_of region.now).shape (data_of region_data.now) ≡ None) }
@@ -192,7 +195,7 @@ impl<G: ChunkGridTraits, K: ChunkKeyEncodingTraits, C: ChainTraits> ArrayLayout<
     /// Why this data is not the expected number of cells, each a value of the data type.
     pub(crate) fn misfit_of(&self, data: &ArrayBytes<'_>, expected: u64) -> Misfit {
         let got = self.count_of(data);
-        if got != expected && data.validate(&self.data_type, got) {
+        if got != expected && data.validate(&self.cell_type.data_type, got) {
             return Misfit::CellCount { got, expected };
         }
         Misfit::NoValue

@@ -2,15 +2,11 @@
 ghost use Rattle.std.specs.Prelude.{◌≡◌, false, IfOk, IfErr, OnOk, OnErr};
 ghost use Rattle.zarrs_codec_chain.specs.Options.{encodes_partially, stores_empty_chunks};
 ghost use Rattle.zarrs_storage.specs.Store.{KeepsRules};
-ghost use Rattle.zarrs_engine_calls.specs.Content.{value_at};
 ghost use Rattle.zarrs_engine_calls.specs.Reach.{MayAskCalls};
-ghost use Rattle.zarrs_engine_calls.specs.Step.{Run};
-ghost use Rattle.zarrs_engine_calls.specs.Patches.{PatchRun, writes_parts};
-ghost use Rattle.zarrs_engine_calls.specs.Canon.{IsCanonical};
-ghost use Rattle.zarrs_engine_calls.specs.Headline.{IsOneFunctionThrough};
-ghost use Rattle.zarrs_engine_calls.specs.Laws.{EachDecodes};
+ghost use Rattle.zarrs_engine_calls.specs.Patches.{writes_parts};
 ghost use Rattle.zarrs_engine_calls.specs.declared.call.Reply.TheVariants.{Done, Cells, Refused};
 ghost use Rattle.zarrs_engine.specs.Engine.{layout_of, store_of, state_of, KeepsOthers};
+ghost use Rattle.zarrs_engine.specs.Outcomes.{KeepsBytes, RunsAs};
 
 use super::Engine;
 use std::alloc::{AllocError, Global};
@@ -39,34 +35,17 @@ pub fn replay<
     options: &CodecOptions,
 ) -> Result<Vec<Reply>, AllocError>
     requires { MayAskCalls (layout_of engine.old) calls.now (state_of S.state engine.old) }
-    // Whatever the options, a run of steps: so says what the keys hold of the chunks of which a part was written by itself.
-    ensures patched { IfOk result (λ replies.
-        PatchRun (layout_of engine.old) (stores_empty_chunks options.now)
-        (encodes_partially options.now) calls.now replies.items (state_of S.state engine.old)
-        (state_of S.state engine.new)) }
-    // Whatever the options, the array is one function through the calls, if each chunk decodes at first.
-    ensures one_function { EachDecodes (layout_of engine.old) (store_of S.state engine.old)
-        → IfOk result (λ replies.
-        IsOneFunctionThrough (layout_of engine.old) calls.now replies.items
-        (state_of S.state engine.old) (state_of S.state engine.new)) }
-    // If no part is written by itself, since none is asked for or the chain or the store cannot, the keys of the chunks that
-    // were stored hold what their cells are encoded to.
-    ensures run { writes_parts (encodes_partially options.now) (layout_of engine.old)
-        (store_of S.state engine.old) ≡ false → IfOk result (λ replies.
-        Run (layout_of engine.old) (stores_empty_chunks options.now) calls.now replies.items
-        (state_of S.state engine.old) (state_of S.state engine.new)) }
+    ensures run { IfOk result (λ replies. RunsAs (layout_of engine.old) options.now calls.now
+        replies.items (state_of S.state engine.old) (state_of S.state engine.new)) }
     ensures untouched { OnErr result (engine.new ≡ engine.old) }
     ensures layout { layout_of engine.new ≡ layout_of engine.old }
     ensures others { KeepsOthers engine.old engine.new }
     ensures reach { KeepsRules (store_of S.state engine.old) (store_of S.state engine.new) }
-    // If empty chunks are not kept, the bytes of a canonical store stay a function of its content.
-    ensures canonical { writes_parts (encodes_partially options.now) (layout_of engine.old)
-        (store_of S.state engine.old) ≡ false → stores_empty_chunks options.now ≡ false
-        → IsCanonical (layout_of engine.old) (value_at (store_of S.state engine.old))
-        → IsCanonical (layout_of engine.old) (value_at (store_of S.state engine.new)) }
-    ensures decodes { writes_parts (encodes_partially options.now) (layout_of engine.old)
-        (store_of S.state engine.old) ≡ false → EachDecodes (layout_of engine.old) (store_of S.state engine.old)
-        → EachDecodes (layout_of engine.old) (store_of S.state engine.new) }
+    // So it is if no part is written by itself.
+    ensures bytes { writes_parts (encodes_partially options.now) (layout_of engine.old)
+        (store_of S.state engine.old) ≡ false → KeepsBytes (layout_of engine.old)
+        (stores_empty_chunks options.now) (store_of S.state engine.old)
+        (store_of S.state engine.new) }
 {
     let mut replies = Vec::with_capacity(alloc, calls.len())?;
     for call in calls {

@@ -4,7 +4,7 @@ use std::alloc::Global;
 use zarrs_chunk_grid::ChunkGridTraits;
 use zarrs_codec_chain::ChainTraits;
 use zarrs_codec_leaf::{CodecError, Misfit, StoredValue};
-use zarrs_data_type::{ArrayBytesDecodeIntoTarget, copy_fill_value_into};
+use zarrs_data_type::{ArrayBytesDecodeIntoTarget, CellType, copy_fill_value_into};
 use zarrs_engine_calls::ArrayError;
 use zarrs_engine_layout::{ArrayLayout, covers_chunk, part_in_chunk, shared_in};
 use zarrs_keys::ChunkKeyEncodingTraits;
@@ -17,23 +17,23 @@ impl<
     K: ChunkKeyEncodingTraits,
     C: ChainTraits,
 > Engine<S, G, K, C> {
-    ghost use Rattle.std.specs.Prelude.{◌≡◌, ◌∷◌, [], true, IfErr, IsSome, None, OnErr, OnOk, length};
+    ghost use Rattle.std.specs.Prelude.{◌≡◌, ◌∷◌, [], true, IfErr, None, OnOk, length};
     ghost use Rattle.zarrs_chunk_grid.specs.Grids.{box_at, has_box};
     ghost use Rattle.zarrs_engine_layout.specs.Covers.{CoverRegion};
     ghost use Rattle.zarrs_subset.specs.Regions.{LiesInBox, box_of, positions};
     ghost use Rattle.zarrs_engine_calls.specs.Content.{value_at};
     ghost use Rattle.zarrs_engine_calls.specs.Reach.{MayAskChunk, MayDecodePart, MayReadPart};
-    ghost use Rattle.zarrs_engine_calls.specs.Reach.{MayReadParts, chunk_part};
+    ghost use Rattle.zarrs_engine_calls.specs.Reach.{MayReadParts};
+    ghost use Rattle.zarrs_engine_calls.specs.ChunkBoxes.{chunk_part};
     ghost use Rattle.zarrs_engine_calls.specs.Refusals.{RefusesBy, refusal_of};
     ghost use Rattle.zarrs_engine_calls.specs.StateRefusals.{IsPart, RefusesSomeChunk};
-    ghost use Rattle.zarrs_data_type.specs.States.{IsTarget, SameBox, StaysOutside, data_of_target};
+    ghost use Rattle.zarrs_data_type.specs.States.{KeepsTarget, data_of_target};
     ghost use Rattle.zarrs_data_type.specs.States.{parent_box, target_box};
-    ghost use Rattle.zarrs_data_type.specs.Targets.{takes_type};
-    ghost use Rattle.zarrs_engine.specs.Engine.{layout_of, state_of, store_of};
+    ghost use Rattle.zarrs_engine.specs.Engine.{layout_of, store_of};
     ghost use Rattle.zarrs_engine.specs.Outcomes.{MayRetrieveRegion};
-    ghost use Rattle.zarrs_engine.specs.Into.{HasContent, RefusesRetrieveInto, RetrievesInto};
-    ghost use Rattle.zarrs_engine.specs.Into.{target_refusal};
-    ghost use Rattle.zarrs_engine.specs.TargetReads.{HasFillElsewhere, HasReadInto, ReadsOneMoreInto};
+    ghost use Rattle.zarrs_engine.specs.Into.{RetrievesIntoOrRefuses, target_refusal};
+    ghost use Rattle.zarrs_engine.specs.TargetReads.{HasFillElsewhere, HasReadInto, ReadsChunkInto};
+    ghost use Rattle.zarrs_engine.specs.TargetReads.{TakesRegion};
 
     /// Reads the region into the target's box, where its cells stand in row-major order. Every byte outside the box
     /// stays.
@@ -43,33 +43,16 @@ impl<
     /// type's, of which a variable type has none; E6 for a box of another shape than the region's; E1 for a position
     /// that no chunk covers; then as `retrieve_array_subset`. E9 may come at any time. What the arguments decide is
     /// refused before a byte is written; after another refusal the inside of the box is open.
+    #[tactic(auto, using(zarrs_data_type_region::proofs::Kept::keeps_itself))]
     pub fn retrieve_array_subset_into(
         &self,
         alloc: Global,
         array_subset: &ArraySubset,
         target: &mut ArrayBytesDecodeIntoTarget<'_, '_, '_>,
     ) -> Result<(), ArrayError>
-        requires ask { MayRetrieveRegion S.state (box_of array_subset.now) self.now }
-        requires target { IsTarget target.old }
-        ensures target { IsTarget target.new }
-        ensures same_bytes { target.new.bytes.ghost_name ≡ target.old.bytes.ghost_name }
-        ensures same_masks { target.new.masks.ghost_name ≡ target.old.masks.ghost_name }
-        ensures same_box { SameBox target.old target.new }
-        ensures cells { OnOk result (RetrievesInto (layout_of self.now)
-            (state_of S.state self.now).shape (box_of array_subset.now)
-            (store_of S.state self.now) target.old target.new) }
-        ensures content { OnOk result (HasContent (layout_of self.now) (box_of array_subset.now)
-            (store_of S.state self.now) target.old target.new) }
-        ensures refused { IfErr result (λ e. RefusesRetrieveInto (layout_of self.now)
-            (state_of S.state self.now).shape (box_of array_subset.now) target.old (refusal_of e)
-            (store_of S.state self.now)) }
-        ensures outside { StaysOutside target.old target.new }
-        ensures kept_bytes { OnErr result (IsSome (target_refusal (layout_of self.now)
-            (state_of S.state self.now).shape (box_of array_subset.now) target.old)
-            → target.new.bytes.now ≡ target.old.bytes.now) }
-        ensures kept_masks { OnErr result (IsSome (target_refusal (layout_of self.now)
-            (state_of S.state self.now).shape (box_of array_subset.now) target.old)
-            → target.new.masks.now ≡ target.old.masks.now) }
+        requires { MayRetrieveRegion S.state (box_of array_subset.now) self.now }
+        ensures { RetrievesIntoOrRefuses S.state (box_of array_subset.now) self.now target.old
+            target.new result }
     {
         self.check_target(alloc, array_subset, target)?;
         let chunks = self.layout.chunks_met(alloc, array_subset)?;
@@ -88,17 +71,15 @@ impl<
     ) -> Result<(), ArrayError>
         ensures dimensions { OnOk result (length (box_of region.now).start
             ≡ (layout_of self.now).grid.dimensions) }
-        ensures takes { OnOk result (takes_type target.now.cell_size target.now.depth
-            (layout_of self.now).kind ≡ true) }
-        ensures same_shape { OnOk result
-            ((target_box target.now).shape ≡ (box_of region.now).shape) }
+        ensures target { OnOk result (TakesRegion (layout_of self.now) (box_of region.now)
+            target.now) }
         ensures refused { IfErr result (λ e. RefusesBy (target_refusal (layout_of self.now)
             (G.array_extents self.now.layout.grid) (box_of region.now) target.now) (refusal_of e)) }
     {
         if region.dimensionality() != self.dimensionality() {
             return Err(self.layout.invalid_region(alloc, region));
         }
-        if !target.takes_type(&self.layout.data_type) {
+        if !target.takes_type(&self.layout.cell_type.data_type) {
             return Err(ArrayError::CodecError(CodecError::DoesNotFit(Misfit::Target)));
         }
         if target.region.shape() != region.shape() {
@@ -111,6 +92,7 @@ impl<
 
     /// Reads what these chunks have of the region into the target's box. Every byte outside the box stays. A box that is
     /// `filled` has the fill value everywhere: there an absent chunk is left alone.
+    #[tactic(auto, using(zarrs_data_type_region::proofs::Kept::keeps_itself))]
     pub(super) fn read_into(
         &self,
         alloc: Global,
@@ -123,23 +105,16 @@ impl<
             (positions (box_of chunks.now)) }
         requires ask { MayReadParts (layout_of self.now) (box_of region.now)
             (positions (box_of chunks.now)) (store_of S.state self.now) }
-        requires target { IsTarget target.old }
-        requires takes { takes_type target.old.cell_size target.old.depth (layout_of self.now).kind
-            ≡ true }
-        requires same_shape { (target_box target.old).shape ≡ (box_of region.now).shape }
+        requires target { TakesRegion (layout_of self.now) (box_of region.now) target.old }
         requires filled { filled ≡ true → HasFillElsewhere (layout_of self.now) (box_of region.now)
             [] (parent_box target.old) (target_box target.old) (data_of_target target.old) }
-        ensures target { IsTarget target.new }
-        ensures same_bytes { target.new.bytes.ghost_name ≡ target.old.bytes.ghost_name }
-        ensures same_masks { target.new.masks.ghost_name ≡ target.old.masks.ghost_name }
-        ensures same_box { SameBox target.old target.new }
+        ensures kept { KeepsTarget target.old target.new }
         ensures read { OnOk result (HasReadInto (layout_of self.now) (box_of region.now)
             (positions (box_of chunks.now)) (store_of S.state self.now) (parent_box target.old)
             (target_box target.old) (data_of_target target.new)) }
         ensures refused { IfErr result (λ e. RefusesSomeChunk (layout_of self.now)
             (box_of region.now) (positions (box_of chunks.now)) (store_of S.state self.now)
             (refusal_of e)) }
-        ensures outside { StaysOutside target.old target.new }
     {
         let Some(mut walk) = chunks.walk(alloc)? else {
             return Ok(());
@@ -166,22 +141,9 @@ impl<
             ≡ (layout_of self.now).grid.dimensions }
         requires ask { MayReadPart (layout_of self.now) (box_of region.now) chunk_indices.now
             (store_of S.state self.now) }
-        requires target { IsTarget target.old }
-        requires takes { takes_type target.old.cell_size target.old.depth (layout_of self.now).kind
-            ≡ true }
-        requires same_shape { (target_box target.old).shape ≡ (box_of region.now).shape }
-        ensures target { IsTarget target.new }
-        ensures same_bytes { target.new.bytes.ghost_name ≡ target.old.bytes.ghost_name }
-        ensures same_masks { target.new.masks.ghost_name ≡ target.old.masks.ghost_name }
-        ensures same_box { SameBox target.old target.new }
-        ensures read { OnOk result (ReadsOneMoreInto (layout_of self.now) filled
-            (box_of region.now) chunk_indices.now (store_of S.state self.now)
-            (parent_box target.old) (target_box target.old) (data_of_target target.old)
-            (data_of_target target.new)) }
-        ensures refused { IfErr result (λ e. RefusesSomeChunk (layout_of self.now)
-            (box_of region.now) (chunk_indices.now ∷ []) (store_of S.state self.now)
-            (refusal_of e)) }
-        ensures outside { StaysOutside target.old target.new }
+        requires target { TakesRegion (layout_of self.now) (box_of region.now) target.old }
+        ensures { ReadsChunkInto (layout_of self.now) filled (box_of region.now)
+            chunk_indices.now (store_of S.state self.now) target.old target.new result }
     {
         if covers_chunk(&self.layout.grid, region, chunk_indices) {
             return self.read_whole_into(alloc, region, chunk_indices, target, filled);
@@ -190,6 +152,7 @@ impl<
     }
 
     /// The same, of a chunk that the region covers.
+    #[tactic(auto, using(zarrs_data_type_region::proofs::Kept::keeps_itself))]
     fn read_whole_into(
         &self,
         alloc: Global,
@@ -205,22 +168,9 @@ impl<
             (box_of region.now) }
         requires ask { MayAskChunk (layout_of self.now) chunk_indices.now
             (store_of S.state self.now) }
-        requires target { IsTarget target.old }
-        requires takes { takes_type target.old.cell_size target.old.depth (layout_of self.now).kind
-            ≡ true }
-        requires same_shape { (target_box target.old).shape ≡ (box_of region.now).shape }
-        ensures target { IsTarget target.new }
-        ensures same_bytes { target.new.bytes.ghost_name ≡ target.old.bytes.ghost_name }
-        ensures same_masks { target.new.masks.ghost_name ≡ target.old.masks.ghost_name }
-        ensures same_box { SameBox target.old target.new }
-        ensures read { OnOk result (ReadsOneMoreInto (layout_of self.now) filled
-            (box_of region.now) chunk_indices.now (store_of S.state self.now)
-            (parent_box target.old) (target_box target.old) (data_of_target target.old)
-            (data_of_target target.new)) }
-        ensures refused { IfErr result (λ e. RefusesSomeChunk (layout_of self.now)
-            (box_of region.now) (chunk_indices.now ∷ []) (store_of S.state self.now)
-            (refusal_of e)) }
-        ensures outside { StaysOutside target.old target.new }
+        requires target { TakesRegion (layout_of self.now) (box_of region.now) target.old }
+        ensures { ReadsChunkInto (layout_of self.now) filled (box_of region.now)
+            chunk_indices.now (store_of S.state self.now) target.old target.new result }
     {
         let Some(encoded) = self.stored_bytes(alloc, chunk_indices)? else {
             return self.read_absent_into(alloc, region, chunk_indices, target, filled);
@@ -231,12 +181,11 @@ impl<
         };
         let ArrayLayout {
             chain,
-            data_type,
-            fill_value,
+            cell_type,
             ..
         } = &self.layout;
         let mut part = target.subdivide(&own);
-        let done = chain.decode_into(alloc, &encoded, data_type, fill_value, &mut part.target);
+        let done = chain.decode_into(alloc, &encoded, cell_type, &mut part.target);
         target.rejoin(part);
         done?;
         Ok(())
@@ -244,6 +193,7 @@ impl<
 
     /// The same, of a chunk of which the region covers a part alone. No other bytes of the chunk are read than those that
     /// the part needs.
+    #[tactic(auto, using(zarrs_data_type_region::proofs::Kept::keeps_itself))]
     fn read_part_into(
         &self,
         alloc: Global,
@@ -259,22 +209,9 @@ impl<
         requires ask { MayDecodePart (layout_of self.now) (chunk_part (box_of region.now)
             (box_at (layout_of self.now).grid chunk_indices.now)) chunk_indices.now
             (store_of S.state self.now) }
-        requires target { IsTarget target.old }
-        requires takes { takes_type target.old.cell_size target.old.depth (layout_of self.now).kind
-            ≡ true }
-        requires same_shape { (target_box target.old).shape ≡ (box_of region.now).shape }
-        ensures target { IsTarget target.new }
-        ensures same_bytes { target.new.bytes.ghost_name ≡ target.old.bytes.ghost_name }
-        ensures same_masks { target.new.masks.ghost_name ≡ target.old.masks.ghost_name }
-        ensures same_box { SameBox target.old target.new }
-        ensures read { OnOk result (ReadsOneMoreInto (layout_of self.now) filled
-            (box_of region.now) chunk_indices.now (store_of S.state self.now)
-            (parent_box target.old) (target_box target.old) (data_of_target target.old)
-            (data_of_target target.new)) }
-        ensures refused { IfErr result (λ e. RefusesSomeChunk (layout_of self.now)
-            (box_of region.now) (chunk_indices.now ∷ []) (store_of S.state self.now)
-            (refusal_of e)) }
-        ensures outside { StaysOutside target.old target.new }
+        requires target { TakesRegion (layout_of self.now) (box_of region.now) target.old }
+        ensures { ReadsChunkInto (layout_of self.now) filled (box_of region.now)
+            chunk_indices.now (store_of S.state self.now) target.old target.new result }
     {
         let key = self.layout.chunk_key(alloc, chunk_indices)?;
         let Some(source) = StoredValue::open(alloc, &self.storage, &key)? else {
@@ -298,6 +235,7 @@ impl<
     }
 
     /// The same, of a chunk that is absent.
+    #[tactic(auto, using(zarrs_data_type_region::proofs::Kept::keeps_itself))]
     fn read_absent_into(
         &self,
         alloc: Global,
@@ -311,22 +249,9 @@ impl<
             ≡ (layout_of self.now).grid.dimensions }
         requires absent { value_at (store_of S.state self.now)
             ((layout_of self.now).key chunk_indices.now) ≡ None }
-        requires target { IsTarget target.old }
-        requires takes { takes_type target.old.cell_size target.old.depth (layout_of self.now).kind
-            ≡ true }
-        requires same_shape { (target_box target.old).shape ≡ (box_of region.now).shape }
-        ensures target { IsTarget target.new }
-        ensures same_bytes { target.new.bytes.ghost_name ≡ target.old.bytes.ghost_name }
-        ensures same_masks { target.new.masks.ghost_name ≡ target.old.masks.ghost_name }
-        ensures same_box { SameBox target.old target.new }
-        ensures read { OnOk result (ReadsOneMoreInto (layout_of self.now) filled
-            (box_of region.now) chunk_indices.now (store_of S.state self.now)
-            (parent_box target.old) (target_box target.old) (data_of_target target.old)
-            (data_of_target target.new)) }
-        ensures refused { IfErr result (λ e. RefusesSomeChunk (layout_of self.now)
-            (box_of region.now) (chunk_indices.now ∷ []) (store_of S.state self.now)
-            (refusal_of e)) }
-        ensures outside { StaysOutside target.old target.new }
+        requires target { TakesRegion (layout_of self.now) (box_of region.now) target.old }
+        ensures { ReadsChunkInto (layout_of self.now) filled (box_of region.now)
+            chunk_indices.now (store_of S.state self.now) target.old target.new result }
     {
         if filled {
             return Ok(());
@@ -335,11 +260,10 @@ impl<
         let Some(own) = shared_in(alloc, grid, region, chunk_indices, target.region)? else {
             return Ok(());
         };
-        let ArrayLayout {
+        let CellType {
             data_type,
             fill_value,
-            ..
-        } = &self.layout;
+        } = &self.layout.cell_type;
         let mut part = target.subdivide(&own);
         let done = copy_fill_value_into(alloc, data_type, fill_value, &mut part.target);
         target.rejoin(part);

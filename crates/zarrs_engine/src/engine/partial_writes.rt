@@ -44,7 +44,7 @@ impl<
     ghost use Rattle.zarrs_engine.specs.RegionWrites.{AreCovered};
     ghost use Rattle.zarrs_engine_layout.specs.Steps.{RefusesPut};
     ghost use Rattle.zarrs_engine.specs.Engine.{layout_of, store_of, KeepsLayout};
-    ghost use Rattle.zarrs_engine.specs.Outcomes.{EncodesPartOrRefuses};
+    ghost use Rattle.zarrs_engine.specs.Outcomes.{EncodesPartOrRefuses, Writes};
     ghost use Rattle.zarrs_engine.specs.Patches.{LeavesPartly, LeavesPatch, PatchesChunk, Shares};
     ghost use Rattle.zarrs_engine.specs.Patches.{SharesEach};
 
@@ -86,12 +86,8 @@ impl<
         key: &StoreKey,
         write: PartialWrite,
     ) -> Result<(), StorageError>
-        ensures done { OnOk result (IsPut key.now (after (change_of write)
-            (value_at (store_of S.state self.old) key.now)) (store_of S.state self.old)
-            (store_of S.state self.new)) }
-        ensures refused { IfErr result (λ e. RefusesPut (refusal_of_storage e)
-            (store_of S.state self.old) (store_of S.state self.new)) }
-        ensures layout_kept { KeepsLayout self.old self.new }
+        ensures { Writes refusal_of_storage S.state (IsPut key.now (after (change_of write)
+            (value_at (store_of S.state self.old) key.now))) RefusesPut self.old self.new result }
     {
         match write {
             PartialWrite::Put(offset, bytes) => {
@@ -156,14 +152,11 @@ impl<
             (position_count (box_of part.now).shape) }
         requires ask { MayAskChunk (layout_of self.old) chunk_indices.now
             (store_of S.state self.old) }
-        ensures done { OnOk result (PatchesChunk (layout_of self.old)
+        ensures { Writes refusal_of S.state (PatchesChunk (layout_of self.old)
             (stores_empty_chunks options.now) chunk_indices.now (box_of part.now)
-            (data_of part_data.now) (store_of S.state self.old) (store_of S.state self.new)) }
-        ensures refused { IfErr result (λ e. LeavesPartly (layout_of self.old)
+            (data_of part_data.now)) (LeavesPartly (layout_of self.old)
             (stores_empty_chunks options.now) chunk_indices.now (box_of part.now)
-            (data_of part_data.now) (refusal_of e) (store_of S.state self.old)
-            (store_of S.state self.new)) }
-        ensures layout_kept { KeepsLayout self.old self.new }
+            (data_of part_data.now)) self.old self.new result }
     {
         let chunk = self.layout.chunk_box(alloc, chunk_indices)?;
         let write = self.part_write(alloc, chunk_indices, &chunk, part, part_data, options)?;
@@ -238,7 +231,12 @@ impl<
         ensures refused { IfErr result (RefusesOffset (box_of inner.now).start origin.now) }
     {
         let seen = inner.relative_to(alloc, origin)?;
-        let data = region_data.extract_array_subset(alloc, &self.layout.data_type, region, inner)?;
+        let data = region_data.extract_array_subset(
+            alloc,
+            &self.layout.cell_type.data_type,
+            region,
+            inner,
+        )?;
         Ok((seen, data))
     }
 
@@ -263,15 +261,12 @@ impl<
             (position_count (box_of region.now).shape) }
         requires ask { MayAskParts (layout_of self.old) (box_of region.now)
             (chunk_indices.now ∷ []) (store_of S.state self.old) }
-        ensures done { OnOk result (PatchesAll (layout_of self.old)
+        ensures { Writes refusal_of S.state (PatchesAll (layout_of self.old)
             (stores_empty_chunks options.now) (IsPart (layout_of self.old) (box_of region.now))
-            (box_of region.now) (data_of region_data.now) (chunk_indices.now ∷ [])
-            (store_of S.state self.old) (store_of S.state self.new)) }
-        ensures refused { IfErr result (λ e. LeavesPatch (layout_of self.old)
-            (stores_empty_chunks options.now) (IsPart (layout_of self.old) (box_of region.now))
-            (box_of region.now) (data_of region_data.now) chunk_indices.now (refusal_of e)
-            (store_of S.state self.old) (store_of S.state self.new)) }
-        ensures layout_kept { KeepsLayout self.old self.new }
+            (box_of region.now) (data_of region_data.now) (chunk_indices.now ∷ []))
+            (LeavesPatch (layout_of self.old) (stores_empty_chunks options.now)
+            (IsPart (layout_of self.old) (box_of region.now)) (box_of region.now)
+            (data_of region_data.now) chunk_indices.now) self.old self.new result }
     {
         let chunk = self.layout.chunk_box(alloc, chunk_indices)?;
         if lies_in_box(&chunk, region) {

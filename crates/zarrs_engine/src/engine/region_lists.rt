@@ -4,9 +4,8 @@ use std::alloc::{AllocError, Global};
 use std::borrow::CowSlice;
 use zarrs_chunk_grid::ChunkGridTraits;
 use zarrs_codec_chain::ChainTraits;
-use zarrs_data_type::{ArrayBytes, ArrayBytesDecodeIntoTarget, DataType};
+use zarrs_data_type::{ArrayBytes, ArrayBytesDecodeIntoTarget, CellType, DataType};
 use zarrs_engine_calls::ArrayError;
-use zarrs_engine_layout::ArrayLayout;
 use zarrs_keys::ChunkKeyEncodingTraits;
 use zarrs_storage::ReadableStorageTraits;
 use zarrs_subset::ArraySubset;
@@ -80,11 +79,10 @@ impl<
         if form.depth > 0 {
             return vec![in alloc; 0u8; count * form.size];
         }
-        let ArrayLayout {
+        let CellType {
             data_type,
             fill_value,
-            ..
-        } = &self.layout;
+        } = &self.layout.cell_type;
         let made = ArrayBytes::new_fill_value(alloc, data_type, count as u64, fill_value)?;
         let ArrayBytes::Fixed(bytes) = made else {
             unreachable!()

@@ -5,9 +5,9 @@ use std::alloc::Global;
 use zarrs_chunk_grid::ChunkGridTraits;
 use zarrs_codec_chain::ChainTraits;
 use zarrs_codec_leaf::StoredValue;
-use zarrs_data_type::{ArrayBytes, RegionCells};
+use zarrs_data_type::{ArrayBytes, CellType, RegionCells};
 use zarrs_engine_calls::ArrayError;
-use zarrs_engine_layout::{ArrayLayout, part_in_chunk, shared_positions};
+use zarrs_engine_layout::{part_in_chunk, shared_positions};
 use zarrs_keys::ChunkKeyEncodingTraits;
 use zarrs_storage::ReadableStorageTraits;
 use zarrs_subset::{ArraySubset, lies_in_box};
@@ -32,7 +32,8 @@ impl<
     ghost use Rattle.zarrs_engine_calls.specs.ChunkBoxes.{CoversBox, is_empty};
     ghost use Rattle.zarrs_engine_calls.specs.Content.{value_at};
     ghost use Rattle.zarrs_engine_calls.specs.Reach.{MayAskChunk, MayDecodePart, MayReadPart};
-    ghost use Rattle.zarrs_engine_calls.specs.Reach.{MayReadParts, chunk_part};
+    ghost use Rattle.zarrs_engine_calls.specs.Reach.{MayReadParts};
+    ghost use Rattle.zarrs_engine_calls.specs.ChunkBoxes.{chunk_part};
     ghost use Rattle.zarrs_engine_calls.specs.Reads.{ReadsRegion};
     ghost use Rattle.zarrs_engine_calls.specs.Refusals.{RefusesBy, refusal_of};
     ghost use Rattle.zarrs_engine_calls.specs.StateRefusals.{IsPart, RefusesRegionRead, RefusesSomeChunk};
@@ -75,11 +76,10 @@ impl<
             (box_of region.now).shape) (refusal_of e)) }
     {
         let count = self.count_to_read(region)?;
-        let ArrayLayout {
+        let CellType {
             data_type,
             fill_value,
-            ..
-        } = &self.layout;
+        } = &self.layout.cell_type;
         let made = RegionCells::new_fill_value(alloc, data_type, count, fill_value)?;
         Ok(made)
     }
@@ -106,6 +106,7 @@ impl<
             (data_of made))) }
         ensures refused { IfErr result (λ e. (region : Box)
             → IsPart (layout_of self.now) region chunk_indices.now
+            → box_of part.now ≡ chunk_part region (box_at (layout_of self.now).grid chunk_indices.now)
             → RefusesSomeChunk (layout_of self.now) region (chunk_indices.now ∷ [])
             (store_of S.state self.now) (refusal_of e)) }
     {
@@ -175,7 +176,13 @@ impl<
             return Ok(held);
         };
         let part = self.layout.decode(alloc, chunk_indices, &encoded)?;
-        let made = held.with_part(alloc, &self.layout.data_type, region, &part, chunk)?;
+        let made = held.with_part(
+            alloc,
+            &self.layout.cell_type.data_type,
+            region,
+            &part,
+            chunk,
+        )?;
         Ok(made)
     }
 
@@ -211,7 +218,13 @@ impl<
         let Some(part) = found else {
             return Ok(held);
         };
-        let made = held.with_part(alloc, &self.layout.data_type, region, &part, &shared.region)?;
+        let made = held.with_part(
+            alloc,
+            &self.layout.cell_type.data_type,
+            region,
+            &part,
+            &shared.region,
+        )?;
         Ok(made)
     }
 
@@ -272,7 +285,7 @@ impl<
                 return self.read_in_chunk(alloc, region, chunks.start());
             }
         }
-        if let Some(form) = form_of(&self.layout.data_type) {
+        if let Some(form) = form_of(&self.layout.cell_type.data_type) {
             return self.read_in_list(alloc, region, chunks, form);
         }
         let filled = self.region_of_fill(alloc, region)?;
@@ -352,9 +365,9 @@ impl<
     /// # Errors
     /// In this order: E1 for another number of dimensions, or a position that no chunk covers; E8 for cells of more
     /// bytes than a `usize` counts. Then one of these: E7 if the store refuses the key of a chunk that the region meets,
-    /// E4 if its bytes do not decode, E8 if what is decoded whole of it (the chunk, a subchunk or nothing) has more bytes
-    /// than that, or so has its fill where the bytes leave out cells, or if all of the region lies in an absent chunk and
-    /// that many fill values have more. E9 may come at any time.
+    /// E4 if its bytes do not decode, E8 if what is decoded whole of it (the chunk, or a subchunk that the region meets)
+    /// has more bytes than that, or so has its fill where its bytes leave out cells, or if all of the region lies in an
+    /// absent chunk and that many fill values have more. E9 may come at any time.
     pub fn retrieve_array_subset(
         &self,
         alloc: Global,

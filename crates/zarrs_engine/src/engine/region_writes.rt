@@ -30,7 +30,7 @@ impl<
     ghost use Rattle.zarrs_engine_calls.specs.StateRefusals.{RefusesPart};
     ghost use Rattle.zarrs_engine_calls.specs.Step.{RefusesStore};
     ghost use Rattle.zarrs_engine.specs.Outcomes.{StoresRegionAs, MayStoreRegion};
-    ghost use Rattle.zarrs_engine.specs.Outcomes.{StoresChunksOrRefuses};
+    ghost use Rattle.zarrs_engine.specs.Outcomes.{StoresChunksOrRefuses, Writes};
     ghost use Rattle.zarrs_engine.specs.Outcomes.{StoresPartAs, MayStorePart};
     ghost use Rattle.zarrs_engine_layout.specs.Covers.{CoverRegion};
     ghost use Rattle.zarrs_engine_layout.specs.Steps.{HasValue};
@@ -68,7 +68,7 @@ impl<
         if lies_in_box(chunk, region) {
             let data = region_data.extract_array_subset(
                 alloc,
-                &self.layout.data_type,
+                &self.layout.cell_type.data_type,
                 region,
                 chunk,
             )?;
@@ -77,7 +77,7 @@ impl<
         let held = self.retrieve_chunk(alloc, chunk_indices)?;
         let data = held.update_array_bytes(
             alloc,
-            &self.layout.data_type,
+            &self.layout.cell_type.data_type,
             chunk,
             region_data,
             region,
@@ -136,15 +136,12 @@ impl<
             (position_count (box_of region.now).shape) }
         requires ask { MayAskParts (layout_of self.old) (box_of region.now)
             (chunk_indices.now ∷ []) (store_of S.state self.old) }
-        ensures done { OnOk result
+        ensures { Writes refusal_of S.state
             (StoresOneMore (layout_of self.old) (stores_empty_chunks options.now)
-            (box_of region.now) (data_of region_data.now) chunk_indices.now
-            (store_of S.state self.old) (store_of S.state self.new)) }
-        ensures refused { IfErr result
-            (λ e. LeavesPart (layout_of self.old) (stores_empty_chunks options.now)
-            (box_of region.now) (data_of region_data.now) chunk_indices.now (refusal_of e)
-            (store_of S.state self.old) (store_of S.state self.new)) }
-        ensures layout_kept { KeepsLayout self.old self.new }
+            (box_of region.now) (data_of region_data.now) chunk_indices.now)
+            (LeavesPart (layout_of self.old) (stores_empty_chunks options.now)
+            (box_of region.now) (data_of region_data.now) chunk_indices.now)
+            self.old self.new result }
     {
         let chunk = self.layout.chunk(alloc, chunk_indices)?;
         if chunk.region == *region {

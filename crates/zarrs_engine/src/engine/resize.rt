@@ -28,6 +28,7 @@ impl<
     ghost use Rattle.zarrs_engine_calls.specs.Refusals.{Refusal, is_too_large, refusal_of};
     ghost use Rattle.zarrs_engine_calls.specs.StateRefusals.{RefusesCut, RefusesKeptCut};
     ghost use Rattle.zarrs_engine.specs.Engine.{layout_of, state_of, store_of, KeepsLayout};
+    ghost use Rattle.zarrs_engine.specs.Outcomes.{Writes};
     ghost use Rattle.zarrs_engine.specs.Resizes.{HasCut, HasCutCells, HasFilled, IsCutValue};
     ghost use Rattle.zarrs_engine.specs.Resizes.{LeavesCut, LeavesFront, PassesChunk, RefusesFilling};
 
@@ -56,7 +57,8 @@ impl<
             return Ok(held);
         };
         let filled = self.layout.filled(alloc, &gone)?;
-        let made = held.update_array_bytes(alloc, &self.layout.data_type, chunk, &filled, &gone)?;
+        let data_type = &self.layout.cell_type.data_type;
+        let made = held.update_array_bytes(alloc, data_type, chunk, &filled, &gone)?;
         Ok(made)
     }
 
@@ -131,13 +133,10 @@ impl<
         requires ask { is_cut (layout_of self.old).grid shape.now chunk_indices.now ≡ true
             → MayAskKept (layout_of self.old) shape.now (chunk_indices.now ∷ [])
             (store_of S.state self.old) }
-        ensures done { OnOk result (PassesChunk (layout_of self.old)
-            (stores_empty_chunks options.now) shape.now chunk_indices.now
-            (store_of S.state self.old) (store_of S.state self.new)) }
-        ensures refused { IfErr result (λ e. LeavesCut (layout_of self.old)
-            (stores_empty_chunks options.now) shape.now chunk_indices.now (refusal_of e)
-            (store_of S.state self.old) (store_of S.state self.new)) }
-        ensures layout_kept { KeepsLayout self.old self.new }
+        ensures { Writes refusal_of S.state (PassesChunk (layout_of self.old)
+            (stores_empty_chunks options.now) shape.now chunk_indices.now)
+            (LeavesCut (layout_of self.old) (stores_empty_chunks options.now) shape.now
+            chunk_indices.now) self.old self.new result }
     {
         let Some(keeps) = self.layout.cut(chunk_indices, shape) else {
             return Ok(());

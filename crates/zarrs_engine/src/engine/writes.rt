@@ -24,7 +24,7 @@ impl<
     ghost use Rattle.zarrs_engine_calls.specs.Refusals.{refusal_of, refusal_of_storage};
     ghost use Rattle.zarrs_engine_calls.specs.Changes.{IsPut};
     ghost use Rattle.zarrs_engine.specs.Engine.{layout_of, store_of, KeepsLayout};
-    ghost use Rattle.zarrs_engine.specs.Outcomes.{StoresChunkOrRefuses};
+    ghost use Rattle.zarrs_engine.specs.Outcomes.{StoresChunkOrRefuses, Writes};
     ghost use Rattle.zarrs_engine.specs.Outcomes.{ErasesChunkOrRefuses, ErasesChunksOrRefuses};
     ghost use Rattle.zarrs_engine_layout.specs.Steps.{RefusesPut};
 
@@ -38,13 +38,8 @@ impl<
         key: &StoreKey,
         value: Option<Vec<u8>>,
     ) -> Result<(), StorageError>
-        ensures done { OnOk result
-            (IsPut key.now (option_map (λ v. v.items) value) (store_of S.state self.old)
-            (store_of S.state self.new)) }
-        ensures refused { IfErr result
-            (λ e. RefusesPut (refusal_of_storage e) (store_of S.state self.old)
-            (store_of S.state self.new)) }
-        ensures layout_kept { KeepsLayout self.old self.new }
+        ensures { Writes refusal_of_storage S.state
+            (IsPut key.now (option_map (λ v. v.items) value)) RefusesPut self.old self.new result }
     {
         match value {
             Some(value) => {

@@ -8,13 +8,15 @@ use Rattle.zarrs_engine.specs.Resizes.{LeavesCut}
 use Rattle.zarrs_engine.proofs.Cuts.{cut_answer, cut_has_box, leaves_cut, leaves_cut_memory, no_answer, passes_none, put_fails, puts_cut}
 use Rattle.zarrs_engine.proofs.engine.Engine.cut_chunk.Goals as goal
 
-pub returns-in_default-clause-done : goal.returns-in_default-clause-done
-returns-in_default-clause-done g c =
+pub returns-in_default : goal.returns-in_default
+returns-in_default g c =
     let layout = layout_of c.args.self.now in
     let index = c.args.chunk_indices.now in
     let shape = c.args.shape.now in
     let fails_so = no_answer (is_cut layout.grid shape index) (keeps_some layout.grid shape index) (sym c.in_default.is ∙ c.cut.ensures) in
-    passes_none layout (stores_empty_chunks c.args.options.now) shape index (g.S.ReadableStorageTraits.state c.args.self.now.storage) fails_so
+    let done =
+    passes_none layout (stores_empty_chunks c.args.options.now) shape index (g.S.ReadableStorageTraits.state c.args.self.now.storage) fails_so in
+    search (rules, done)
 
 pub cut_value-requires-clause-boxed : goal.cut_value-requires-clause-boxed
 cut_value-requires-clause-boxed g c =
@@ -40,8 +42,8 @@ cut_value-requires-clause-ask g c =
     let holds_so = cut_answer (is_cut layout.grid shape index) (keeps_some layout.grid shape index) c.in-Some.keeps (sym c.in-Some.is ∙ c.cut.ensures) in
     c.requires.ask holds_so.0
 
-pub returns-in_err-value-clause-refused : goal.returns-in_err-value-clause-refused
-returns-in_err-value-clause-refused g c =
+pub returns-in_err-value : goal.returns-in_err-value
+returns-in_err-value g c =
     let layout = layout_of c.args.self.now in
     let index = c.args.chunk_indices.now in
     let shape = c.args.shape.now in
@@ -49,8 +51,8 @@ returns-in_err-value-clause-refused g c =
     let why = leaves_cut layout (stores_empty_chunks c.args.options.now) shape index holds_so.0 (refusal_of c.in_err-value.field-0.0) (g.S.ReadableStorageTraits.state c.args.self.now.storage) c.in_err-value.ensures.refused in
     search (rules, why)
 
-pub returns-in_err-key-clause-refused : goal.returns-in_err-key-clause-refused
-returns-in_err-key-clause-refused g c =
+pub returns-in_err-key : goal.returns-in_err-key
+returns-in_err-key g c =
     let layout = layout_of c.args.self.now in
     let index = c.args.chunk_indices.now in
     let shape = c.args.shape.now in
@@ -58,8 +60,8 @@ returns-in_err-key-clause-refused g c =
     let why = leaves_cut_memory layout (stores_empty_chunks c.args.options.now) shape index holds_so.0 (g.S.ReadableStorageTraits.state c.args.self.now.storage) in
     search (rules, why)
 
-pub returns-in_err-put-clause-refused : goal.returns-in_err-put-clause-refused
-returns-in_err-put-clause-refused g c =
+pub returns-in_err-put : goal.returns-in_err-put
+returns-in_err-put g c =
     let layout = layout_of c.args.self.now in
     let keep = stores_empty_chunks c.args.options.now in
     let index = c.args.chunk_indices.now in
@@ -72,11 +74,13 @@ returns-in_err-put-clause-refused g c =
     let said = subst (λ (r : Refusal). LeavesCut layout keep shape index r old new) (sym (storage_said e)) why in
     search (rules, said)
 
-pub returns-clause-done : goal.returns-clause-done
-returns-clause-done g c =
+pub returns : goal.returns
+returns g c =
     let layout = layout_of c.args.self.now in
     let index = c.args.chunk_indices.now in
     let shape = c.args.shape.now in
     let holds_so = cut_answer (is_cut layout.grid shape index) (keeps_some layout.grid shape index) c.in-Some.keeps (sym c.in-Some.is ∙ c.cut.ensures) in
+    let done =
     puts_cut layout (stores_empty_chunks c.args.options.now) shape index holds_so.0 c.args.self.now.layout.lawful (cut_has_box layout shape index holds_so.0)
-    c.in_ok-key.key (option_map (λ v. v.items) c.in_ok-value.value) (g.S.ReadableStorageTraits.state c.args.self.now.storage) (g.S.ReadableStorageTraits.state c.put.new.self.storage) c.in_ok-key.ensures.key c.in_ok-value.ensures.value c.in_ok-put.ensures.done
+    c.in_ok-key.key (option_map (λ v. v.items) c.in_ok-value.value) (g.S.ReadableStorageTraits.state c.args.self.now.storage) (g.S.ReadableStorageTraits.state c.put.new.self.storage) c.in_ok-key.ensures.key c.in_ok-value.ensures.value c.in_ok-put.ensures.done in
+    search (rules, done)

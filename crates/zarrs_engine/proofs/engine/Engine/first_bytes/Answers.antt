@@ -14,9 +14,9 @@ use Rattle.zarrs_engine.proofs.engine.Engine.first_bytes.Goals as goal
 pub new_fill_value-requires-clause-size : goal.new_fill_value-requires-clause-size
 new_fill_value-requires-clause-size g c =
     let parts = c.args.self.now.layout in
-    let k = kind parts.data_type in
+    let k = kind parts.cell_type.data_type in
     let form = c.args.form in
-    let held = held_fixed k form.size (fill_of k parts.fill_value) (type_taken form.size form.depth k c.requires.takes).0 (fill-value k parts.fill_value parts.filled) in
+    let held = held_fixed k form.size (fill_of k parts.cell_type.fill_value) (type_taken form.size form.depth k c.requires.takes).0 (fill-value k parts.cell_type.fill_value parts.cell_type.filled) in
     subst (λ n. c.args.count * n < 2 ^ 64) (sym held) c.requires.size
 
 pub returns-clause-len : goal.returns-clause-len

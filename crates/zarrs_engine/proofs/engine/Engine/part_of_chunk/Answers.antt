@@ -5,6 +5,7 @@ use Rattle.zarrs_data_type.specs.ArrayData.{data_of}
 use Rattle.zarrs_codec_chain.proofs.Kept.{err_kept}
 use Rattle.zarrs_codec_chain.specs.Parts.{DecodesPart}
 use Rattle.zarrs_codec_leaf.specs.Stored.{key_of_source, state_of_source, value_or_empty}
+use Rattle.zarrs_engine_calls.specs.ChunkBoxes.{chunk_part}
 use Rattle.zarrs_engine_calls.specs.Content.{decoded_cells}
 use Rattle.zarrs_engine_calls.specs.Errors.{error_of_storage}
 use Rattle.zarrs_engine_calls.specs.Refusals.{refusal_of}
@@ -28,10 +29,11 @@ returns-in_err-source-clause-refused g c =
     let layout = layout_of c.args.self.now in
     let index = c.args.chunk_indices.now in
     let state = g.S.ReadableStorageTraits.state c.args.self.now.storage in
+    let part = box_of c.args.part.now in
     let e = c.in_err-source.field-0.0 in
-    let why : (region : Box) → IsPart layout region index → RefusesSomeChunk layout region (index ∷ []) state (refusal_of (error_of_storage e)) = λ region part.
+    let why : (region : Box) → IsPart layout region index → part ≡ chunk_part region (box_at layout.grid index) → RefusesSomeChunk layout region (index ∷ []) state (refusal_of (error_of_storage e)) = λ region proper seen.
     key_why layout region index state c.requires.boxed _ e c.in_ok-key.ensures.key c.in_err-source.ensures.refused in
-    err_kept c.from_residual-in_err-source.result (error_of_storage e) (λ e. (region : Box) → IsPart layout region index → RefusesSomeChunk layout region (index ∷ []) state (refusal_of e)) c.from_residual-in_err-source.ensures.1 why
+    err_kept c.from_residual-in_err-source.result (error_of_storage e) (λ e. (region : Box) → IsPart layout region index → part ≡ chunk_part region (box_at layout.grid index) → RefusesSomeChunk layout region (index ∷ []) state (refusal_of e)) c.from_residual-in_err-source.ensures.1 why
 
 pub decode_part-requires-clause-size : goal.decode_part-requires-clause-size
 decode_part-requires-clause-size g c = size_fits (layout_of c.args.self.now) (box_of c.args.part.now).shape c.requires.size
@@ -65,11 +67,12 @@ returns-in_err-made-clause-refused g c =
     let bytes = value_or_empty (state_of_source source) (key_of_source source) in
     let same : (state_of_source source).refuses (key_of_source source) ≡ state.refuses (layout.key index) =
     ap (λ (s : StoreState). s.refuses (key_of_source source)) state_is ∙ ap state.refuses key_is in
+    let part = box_of c.args.part.now in
     let r = refusal_of c.in_err-made.field-0.0 in
-    let why : (region : Box) → IsPart layout region index → RefusesSomeChunk layout region (index ∷ []) state r = λ region part.
-    part_why layout region index state c.requires.boxed part bytes ((state_of_source source).refuses (key_of_source source)) (box_at layout.grid index) refl same (found.1 ∙ ap Some (sym found.2)) r
-    (subst (λ s. RefusesPartBytes layout (box_at_origin s) bytes ((state_of_source source).refuses (key_of_source source)) r) c.requires.shape c.in_err-made.ensures.refused) in
-    err_kept c.from_residual-in_err-made.result c.in_err-made.field-0.0 (λ e. (region : Box) → IsPart layout region index → RefusesSomeChunk layout region (index ∷ []) state (refusal_of e)) c.from_residual-in_err-made.ensures.1 why
+    let why : (region : Box) → IsPart layout region index → part ≡ chunk_part region (box_at layout.grid index) → RefusesSomeChunk layout region (index ∷ []) state r = λ region proper seen.
+    part_why layout region index state c.requires.boxed proper part seen bytes ((state_of_source source).refuses (key_of_source source)) (box_at layout.grid index) refl same (found.1 ∙ ap Some (sym found.2)) r
+    (subst (λ s. RefusesPartBytes layout (box_at_origin s) part bytes ((state_of_source source).refuses (key_of_source source)) r) c.requires.shape c.in_err-made.ensures.refused) in
+    err_kept c.from_residual-in_err-made.result c.in_err-made.field-0.0 (λ e. (region : Box) → IsPart layout region index → part ≡ chunk_part region (box_at layout.grid index) → RefusesSomeChunk layout region (index ∷ []) state (refusal_of e)) c.from_residual-in_err-made.ensures.1 why
 
 pub returns-clause-part : goal.returns-clause-part
 returns-clause-part g c =

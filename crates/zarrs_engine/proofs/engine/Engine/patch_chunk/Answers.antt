@@ -13,8 +13,8 @@ use Rattle.zarrs_engine.proofs.PatchRefusals.{box_partly, partly_leaves, put_lea
 use Rattle.zarrs_engine.proofs.PatchedChunks.{patched}
 use Rattle.zarrs_engine.proofs.engine.Engine.patch_chunk.Goals as goal
 
-pub returns-in_err-chunk-clause-refused : goal.returns-in_err-chunk-clause-refused
-returns-in_err-chunk-clause-refused g c =
+pub returns-in_err-chunk : goal.returns-in_err-chunk
+returns-in_err-chunk g c =
     let layout = layout_of c.args.self.now in
     let keep = stores_empty_chunks c.args.options.now in
     let state = g.S.ReadableStorageTraits.state c.args.self.now.storage in
@@ -28,23 +28,23 @@ returns-in_err-chunk-clause-refused g c =
 pub part_write-requires-clause-long : goal.part_write-requires-clause-long
 part_write-requires-clause-long g c = (box_is_there (layout_of c.args.self.now).grid c.args.chunk_indices.now c.requires.boxed).long
 
-pub returns-in_err-write-clause-refused : goal.returns-in_err-write-clause-refused
-returns-in_err-write-clause-refused g c =
+pub returns-in_err-write : goal.returns-in_err-write
+returns-in_err-write g c =
     let state = g.S.ReadableStorageTraits.state c.args.self.now.storage in
     let why = partly_leaves (layout_of c.args.self.now) (stores_empty_chunks c.args.options.now) c.args.chunk_indices.now (box_of c.args.part.now) (data_of c.args.part_data.now)
     (refusal_of c.in_err-write.field-0.0) state c.in_err-write.ensures.refused in
     search (rules, why)
 
-pub returns-in_err-key-clause-refused : goal.returns-in_err-key-clause-refused
-returns-in_err-key-clause-refused g c =
+pub returns-in_err-key : goal.returns-in_err-key
+returns-in_err-key g c =
     let layout = layout_of c.args.self.now in
     let keep = stores_empty_chunks c.args.options.now in
     let state = g.S.ReadableStorageTraits.state c.args.self.now.storage in
     let why = partly_leaves layout keep c.args.chunk_indices.now (box_of c.args.part.now) (data_of c.args.part_data.now) out_of_memory state tt in
     search (rules, why)
 
-pub returns-in_err-put_part-clause-refused : goal.returns-in_err-put_part-clause-refused
-returns-in_err-put_part-clause-refused g c =
+pub returns-in_err-put_part : goal.returns-in_err-put_part
+returns-in_err-put_part g c =
     let layout = layout_of c.args.self.now in
     let keep = stores_empty_chunks c.args.options.now in
     let index = c.args.chunk_indices.now in
@@ -57,11 +57,13 @@ returns-in_err-put_part-clause-refused g c =
     let why = subst (λ (r : Refusal). LeavesPartly layout keep index part held r old new) (sym (storage_said e)) left in
     search (rules, why)
 
-pub returns-clause-done : goal.returns-clause-done
-returns-clause-done g c =
+pub returns : goal.returns
+returns g c =
     let layout = layout_of c.args.self.now in
     let keep = stores_empty_chunks c.args.options.now in
     let part = box_of c.args.part.now in
+    let done =
     patched layout c.args.self.now.layout.lawful c.args.chunk_indices.now c.requires.boxed keep part (data_of c.args.part_data.now) c.in_ok-key.key (change_of c.in_ok-write.write)
     (g.S.ReadableStorageTraits.state c.args.self.now.storage) (g.S.ReadableStorageTraits.state c.put_part.new.self.storage)
-    c.args.part.now.same_length c.requires.part c.requires.cells c.in_ok-key.ensures.key c.in_ok-write.ensures.written c.in_ok-put_part.ensures.done
+    c.args.part.now.same_length c.requires.part c.requires.cells c.in_ok-key.ensures.key c.in_ok-write.ensures.written c.in_ok-put_part.ensures.done in
+    search (rules, done)

@@ -1,4 +1,4 @@
-use Rattle.std.proofs.Common.{◌≡◌, ◌∙◌, length, rules, subst, sym, ap}
+use Rattle.std.proofs.Common.{◌≡◌, ◌∙◌, length, refl, rules, subst, sym, ap}
 use Rattle.std.proofs.lemmas.Bool.{false≢true}
 use Rattle.std.proofs.lemmas.Result.{on_ok_weaker}
 use Rattle.zarrs_subset.specs.Regions.{Box, LiesInBox, LiesInShape, box_of, seen_from}
@@ -25,8 +25,8 @@ use Rattle.zarrs_engine.proofs.PatchedRegions.{leaves_patch, stored_patched}
 use Rattle.zarrs_engine.proofs.Puts.{each_error}
 use Rattle.zarrs_engine.proofs.engine.Engine.patch_part.Goals as goal
 
-pub returns-in_err-chunk-clause-refused : goal.returns-in_err-chunk-clause-refused
-returns-in_err-chunk-clause-refused g c =
+pub returns-in_err-chunk : goal.returns-in_err-chunk
+returns-in_err-chunk g c =
     let layout = layout_of c.args.self.now in
     let keep = stores_empty_chunks c.args.options.now in
     let state = g.S.ReadableStorageTraits.state c.args.self.now.storage in
@@ -37,8 +37,8 @@ returns-in_err-chunk-clause-refused g c =
     (only_memory _ r (chunk_accepted layout index c.requires.boxed) c.in_err-chunk.ensures.refused) in
     search (rules, why)
 
-pub returns-in_err-shared-clause-refused : goal.returns-in_err-shared-clause-refused
-returns-in_err-shared-clause-refused g c =
+pub returns-in_err-shared : goal.returns-in_err-shared
+returns-in_err-shared g c =
     let layout = layout_of c.args.self.now in
     let keep = stores_empty_chunks c.args.options.now in
     let state = g.S.ReadableStorageTraits.state c.args.self.now.storage in
@@ -47,11 +47,11 @@ returns-in_err-shared-clause-refused g c =
     let same = ap (λ (b : Box). length b.start) c.in_ok-chunk.ensures.region ∙ box_dimensions layout.grid index ∙ sym c.requires.dimensions in
     let why = memory_leaves layout keep (IsPart layout region) region (data_of c.args.region_data.now) index _ state
     (length_memory _ _ c.in_err-shared.field-0.0 same c.in_err-shared.ensures.refused) in
-    search (rules, why)
+    record { done = search rules; refused = search (rules, why); layout_kept = refl }
 
 -- a chunk that the region covers
-pub returns-then-lies_in_box-clause-done : goal.returns-then-lies_in_box-clause-done
-returns-then-lies_in_box-clause-done g c =
+pub returns-then-lies_in_box : goal.returns-then-lies_in_box
+returns-then-lies_in_box g c =
     let layout = layout_of c.args.self.now in
     let keep = stores_empty_chunks c.args.options.now in
     let old = g.S.ReadableStorageTraits.state c.args.self.now.storage in
@@ -60,23 +60,17 @@ returns-then-lies_in_box-clause-done g c =
     let index = c.args.chunk_indices.now in
     let lies = subst (λ (b : Box). LiesInBox b region) c.in_ok-chunk.ensures.region (c.lies_in_box.ensures.0 c.if-lies_in_box.true) in
     let covers = lies_covers (box_at layout.grid index) region (box_long layout.grid index) c.args.region.now.same_length lies in
-    on_ok_weaker c.store_part.result
-    (stored_patched layout c.args.self.now.layout.lawful keep (IsPart layout region) region (data_of c.args.region_data.now) index old new (λ part. part covers)) c.store_part.ensures.done
-
-pub returns-then-lies_in_box-clause-refused : goal.returns-then-lies_in_box-clause-refused
-returns-then-lies_in_box-clause-refused g c =
-    let layout = layout_of c.args.self.now in
-    let keep = stores_empty_chunks c.args.options.now in
-    let old = g.S.ReadableStorageTraits.state c.args.self.now.storage in
-    let new = g.S.ReadableStorageTraits.state c.store_part.new.self.storage in
-    let region = box_of c.args.region.now in
     let held = data_of c.args.region_data.now in
-    let index = c.args.chunk_indices.now in
-    let lies = subst (λ (b : Box). LiesInBox b region) c.in_ok-chunk.ensures.region (c.lies_in_box.ensures.0 c.if-lies_in_box.true) in
-    let covers = lies_covers (box_at layout.grid index) region (box_long layout.grid index) c.args.region.now.same_length lies in
-    each_error c.store_part.result (λ (e : ArrayError). LeavesPart layout keep region held index (refusal_of e) old new)
-    (λ (e : ArrayError). LeavesPatch layout keep (IsPart layout region) region held index (refusal_of e) old new)
-    (λ e l. leaves_patch layout keep (IsPart layout region) region held index (refusal_of e) old new (λ part. part covers) l) c.store_part.ensures.refused
+    record {
+      done =
+          on_ok_weaker c.store_part.result
+          (stored_patched layout c.args.self.now.layout.lawful keep (IsPart layout region) region (data_of c.args.region_data.now) index old new (λ part. part covers)) c.store_part.ensures.done;
+      refused =
+          each_error c.store_part.result (λ (e : ArrayError). LeavesPart layout keep region held index (refusal_of e) old new)
+          (λ (e : ArrayError). LeavesPatch layout keep (IsPart layout region) region held index (refusal_of e) old new)
+          (λ e l. leaves_patch layout keep (IsPart layout region) region held index (refusal_of e) old new (λ part. part covers) l) c.store_part.ensures.refused;
+      layout_kept = c.store_part.ensures.layout_kept;
+    }
 
 pub seen_cells-requires-clause-inside : goal.seen_cells-requires-clause-inside
 seen_cells-requires-clause-inside g c =
@@ -85,8 +79,8 @@ seen_cells-requires-clause-inside g c =
     let shares = subst (Shares region) (sym c.in_ok-chunk.ensures.region) c.requires.meets in
     shared_lies region chunk (box_of c.in_ok-shared.shared) chunk c.args.region.now.same_length c.in_ok-chunk.chunk.same_length c.in_ok-shared.ensures.dimensions c.in_ok-shared.ensures.value shares
 
-pub returns-in_err-part-clause-refused : goal.returns-in_err-part-clause-refused
-returns-in_err-part-clause-refused g c =
+pub returns-in_err-part : goal.returns-in_err-part
+returns-in_err-part g c =
     let layout = layout_of c.args.self.now in
     let keep = stores_empty_chunks c.args.options.now in
     let state = g.S.ReadableStorageTraits.state c.args.self.now.storage in
@@ -98,7 +92,11 @@ returns-in_err-part-clause-refused g c =
     let region = box_of c.args.region.now in
     let held = data_of c.args.region_data.now in
     let why = memory_leaves layout keep (IsPart layout region) region held index _ state memory in
-    err_kept c.from_residual-in_err-part.result (error_of_subset c.in_err-part.field-0.0) (λ (e : ArrayError). LeavesPatch layout keep (IsPart layout region) region held index (refusal_of e) state state) c.from_residual-in_err-part.ensures.1 why
+    record {
+      done = search rules;
+      refused = err_kept c.from_residual-in_err-part.result (error_of_subset c.in_err-part.field-0.0) (λ (e : ArrayError). LeavesPatch layout keep (IsPart layout region) region held index (refusal_of e) state state) c.from_residual-in_err-part.ensures.1 why;
+      layout_kept = refl;
+    }
 
 pub patch_chunk-requires-clause-part : goal.patch_chunk-requires-clause-part
 patch_chunk-requires-clause-part g c =
@@ -121,8 +119,8 @@ patch_chunk-requires-clause-ask g c =
     false≢true (sym c.if-lies_in_box.false ∙ c.lies_in_box.ensures.1 (subst (λ (b : Box). LiesInBox b region) (sym c.in_ok-chunk.ensures.region) lies)) in
     c.requires.ask index (member index) proper
 
-pub returns-clause-done : goal.returns-clause-done
-returns-clause-done g c =
+pub returns : goal.returns
+returns g c =
     let layout = layout_of c.args.self.now in
     let keep = stores_empty_chunks c.args.options.now in
     let index = c.args.chunk_indices.now in
@@ -137,30 +135,18 @@ returns-clause-done g c =
     false≢true (sym c.if-lies_in_box.false ∙ c.lies_in_box.ensures.1 (subst (λ (b : Box). LiesInBox b region) (sym c.in_ok-chunk.ensures.region) lies)) in
     let old = g.S.ReadableStorageTraits.state c.args.self.now.storage in
     let new = g.S.ReadableStorageTraits.state c.patch_chunk.new.self.storage in
-    on_ok_weaker c.patch_chunk.result (patched_shared region chunk shared part c.args.region.now.same_length c.in_ok-chunk.chunk.same_length c.in_ok-shared.ensures.dimensions c.in_ok-shared.ensures.value shares part_is
-    layout keep (IsPart layout region) index proper c.in_ok-chunk.ensures.region (data_of c.args.region_data.now) (data_of c.in_ok-part.data) c.in_ok-part.ensures.cells old new c.requires.given)
-    c.patch_chunk.ensures.done
-
-pub returns-clause-refused : goal.returns-clause-refused
-returns-clause-refused g c =
-    let layout = layout_of c.args.self.now in
-    let keep = stores_empty_chunks c.args.options.now in
-    let index = c.args.chunk_indices.now in
-    let region = box_of c.args.region.now in
     let held = data_of c.args.region_data.now in
-    let chunk = box_of c.in_ok-chunk.chunk in
-    let shared = box_of c.in_ok-shared.shared in
-    let part = box_of c.in_ok-part.part in
     let taken = data_of c.in_ok-part.data in
-    let shares = subst (Shares region) (sym c.in_ok-chunk.ensures.region) c.requires.meets in
-    let part_is : part ≡ seen_from shared chunk.start = c.in_ok-part.ensures.seen ∙ ap (λ start. seen_from shared start) c.start.ensures in
-    let proper : IsPart layout region index = λ covers.
-    let lies = covers_lies layout.grid c.args.self.now.layout.lawful.grid index c.requires.boxed region c.args.region.now.same_length c.requires.dimensions covers in
-    false≢true (sym c.if-lies_in_box.false ∙ c.lies_in_box.ensures.1 (subst (λ (b : Box). LiesInBox b region) (sym c.in_ok-chunk.ensures.region) lies)) in
-    let old = g.S.ReadableStorageTraits.state c.args.self.now.storage in
-    let new = g.S.ReadableStorageTraits.state c.patch_chunk.new.self.storage in
-    each_error c.patch_chunk.result (λ (e : ArrayError). LeavesPartly layout keep index part taken (refusal_of e) old new)
-    (λ (e : ArrayError). LeavesPatch layout keep (IsPart layout region) region held index (refusal_of e) old new)
-    (λ e l. shared_left region chunk shared part c.args.region.now.same_length c.in_ok-chunk.chunk.same_length c.in_ok-shared.ensures.dimensions c.in_ok-shared.ensures.value shares part_is
-    layout keep (IsPart layout region) index proper c.in_ok-chunk.ensures.region held taken c.in_ok-part.ensures.cells old new (refusal_of e) l)
-    c.patch_chunk.ensures.refused
+    record {
+      done =
+          on_ok_weaker c.patch_chunk.result (patched_shared region chunk shared part c.args.region.now.same_length c.in_ok-chunk.chunk.same_length c.in_ok-shared.ensures.dimensions c.in_ok-shared.ensures.value shares part_is
+          layout keep (IsPart layout region) index proper c.in_ok-chunk.ensures.region (data_of c.args.region_data.now) (data_of c.in_ok-part.data) c.in_ok-part.ensures.cells old new c.requires.given)
+          c.patch_chunk.ensures.done;
+      refused =
+          each_error c.patch_chunk.result (λ (e : ArrayError). LeavesPartly layout keep index part taken (refusal_of e) old new)
+          (λ (e : ArrayError). LeavesPatch layout keep (IsPart layout region) region held index (refusal_of e) old new)
+          (λ e l. shared_left region chunk shared part c.args.region.now.same_length c.in_ok-chunk.chunk.same_length c.in_ok-shared.ensures.dimensions c.in_ok-shared.ensures.value shares part_is
+          layout keep (IsPart layout region) index proper c.in_ok-chunk.ensures.region held taken c.in_ok-part.ensures.cells old new (refusal_of e) l)
+          c.patch_chunk.ensures.refused;
+      layout_kept = c.patch_chunk.ensures.layout_kept;
+    }

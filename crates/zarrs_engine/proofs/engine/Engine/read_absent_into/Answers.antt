@@ -1,68 +1,65 @@
-use Rattle.std.proofs.Common.{◌≡◌, ◌∙◌, None, Some, ap, refl, sym}
-use Rattle.zarrs_subset.specs.Boxes.{position_count}
+use Rattle.std.proofs.Common.{◌≡◌, ◌∙◌, None, Some, ap, refl, rules, sym}
 use Rattle.zarrs_subset.specs.Regions.{Box, box_of, overlap_of, seen_from}
 use Rattle.zarrs_subset.proofs.Inside.{holds_inside}
 use Rattle.zarrs_chunk_grid.specs.Grids.{box_at}
 use Rattle.zarrs_chunk_grid.proofs.Chunks.{box_long}
 use Rattle.zarrs_data_type.specs.States.{data_of_target, parent_box, target_box}
+use Rattle.zarrs_data_type_region.proofs.Kept.{keeps_itself}
 use Rattle.zarrs_data_type_region.proofs.TargetBoxes.{lies_at_origin, origin_long}
-use Rattle.zarrs_data_type_region.proofs.TargetLevels.{masked_keeps}
 use Rattle.zarrs_engine_calls.specs.Content.{value_at}
 use Rattle.zarrs_engine_calls.proofs.Contents.{absent_fill}
 use Rattle.zarrs_engine_layout.specs.Shared.{IsSharedIn}
 use Rattle.zarrs_engine.specs.Engine.{layout_of}
 use Rattle.zarrs_engine.specs.TargetReads.{HasPositions}
-use Rattle.zarrs_engine.proofs.IntoReads.{same_takes, same_twice}
-use Rattle.zarrs_engine.proofs.LentParts.{IsTakenBack, back_reads, back_stays, made_lies}
+use Rattle.zarrs_engine.proofs.IntoReads.{same_takes}
+use Rattle.zarrs_engine.proofs.LentParts.{IsTakenBack, back_kept, back_reads, made_lies}
 use Rattle.zarrs_engine.proofs.TargetReads.{filled_positions, into_absent, into_apart, is_long}
 use Rattle.zarrs_engine.proofs.engine.Engine.read_absent_into.Goals as goal
 
-pub returns-then-filled-clause-read : goal.returns-then-filled-clause-read
-returns-then-filled-clause-read g c =
+pub returns-then-filled : goal.returns-then-filled
+returns-then-filled g c =
     let layout = layout_of c.args.self.now in
     let state = g.S.ReadableStorageTraits.state c.args.self.now.storage in
     let t = c.args.target.now in
-    into_absent layout c.args.self.now.layout.lawful (box_of c.args.region.now) state (parent_box t) (target_box t) c.args.filled c.args.chunk_indices.now c.requires.boxed (data_of_target t) c.if-filled.true c.requires.absent
+    let read =
+    into_absent layout c.args.self.now.layout.lawful (box_of c.args.region.now) state (parent_box t) (target_box t) c.args.filled c.args.chunk_indices.now c.requires.boxed (data_of_target t) c.if-filled.true c.requires.absent in
+    record { kept = keeps_itself t; read = read; refused = tt }
 
-pub returns-then-filled-clause-outside : goal.returns-then-filled-clause-outside
-returns-then-filled-clause-outside g c =
-    let t = c.args.target.now in
-    masked_keeps t.cell_size (parent_box t) (target_box t) t.depth (position_count t.parent_shape.now) t.masks.now t.bytes.now
+pub returns-in_err-own : goal.returns-in_err-own
+returns-in_err-own g c =
+    let kept = keeps_itself c.args.target.now in
+    search (rules, kept)
 
-pub returns-in_err-own-clause-outside : goal.returns-in_err-own-clause-outside
-returns-in_err-own-clause-outside g c =
-    let t = c.args.target.now in
-    masked_keeps t.cell_size (parent_box t) (target_box t) t.depth (position_count t.parent_shape.now) t.masks.now t.bytes.now
-
-pub returns-in_default-clause-read : goal.returns-in_default-clause-read
-returns-in_default-clause-read g c =
+pub returns-in_default : goal.returns-in_default
+returns-in_default g c =
     let layout = layout_of c.args.self.now in
     let state = g.S.ReadableStorageTraits.state c.args.self.now.storage in
     let t = c.args.target.now in
     let apart = rw c.in_default.is at c.in_ok-own.ensures.none in
-    into_apart layout c.args.self.now.layout.lawful (box_of c.args.region.now) state (parent_box t) (target_box t) c.args.filled c.args.chunk_indices.now c.requires.boxed (data_of_target t) apart
+    let read =
+    into_apart layout c.args.self.now.layout.lawful (box_of c.args.region.now) state (parent_box t) (target_box t) c.args.filled c.args.chunk_indices.now c.requires.boxed (data_of_target t) apart in
+    record { kept = keeps_itself t; read = read; refused = tt }
 
-pub returns-in_default-clause-outside : goal.returns-in_default-clause-outside
-returns-in_default-clause-outside g c =
-    let t = c.args.target.now in
-    masked_keeps t.cell_size (parent_box t) (target_box t) t.depth (position_count t.parent_shape.now) t.masks.now t.bytes.now
-
-pub subdivide-part-requires-clause-inside : goal.subdivide-part-requires-clause-inside
-subdivide-part-requires-clause-inside g c =
+pub subdivide-part-requires : goal.subdivide-part-requires
+subdivide-part-requires g c =
     let layout = layout_of c.args.self.now in
     let t = c.args.target.now in
     let index = c.args.chunk_indices.now in
-    made_lies (target_box t) (box_of c.args.region.now) (box_at layout.grid index) (box_of c.in-Some.own) t.region.now.same_length c.args.region.now.same_length (box_long layout.grid index) c.requires.same_shape
-    (rw c.in-Some.is at c.in_ok-own.ensures.some)
+    let is : IsSharedIn (target_box t) (box_of c.args.region.now) (box_at layout.grid index) (box_of c.in-Some.own) = rw c.in-Some.is at c.in_ok-own.ensures.some in
+    record {
+      inside =
+          made_lies (target_box t) (box_of c.args.region.now) (box_at layout.grid index) (box_of c.in-Some.own) t.region.now.same_length c.args.region.now.same_length (box_long layout.grid index)
+          c.requires.target.same_shape is;
+    }
 
 pub copy_fill_value_into-done-requires-clause-takes : goal.copy_fill_value_into-done-requires-clause-takes
 copy_fill_value_into-done-requires-clause-takes g c =
     let p = c.subdivide-part.result.target in
-    let same = c.subdivide-part.ensures.same_parent in
-    same_takes c.args.target.now p (layout_of c.args.self.now).kind same.cell_size same.depth c.requires.takes
+    let same = c.subdivide-part.ensures.bytes in
+    same_takes c.args.target.now p (layout_of c.args.self.now).kind same.cell_size same.depth c.requires.target.takes
 
-pub returns-in_err-done-clause-outside : goal.returns-in_err-done-clause-outside
-returns-in_err-done-clause-outside g c =
+pub returns : goal.returns
+returns g c =
     let layout = layout_of c.args.self.now in
     let lawful = c.args.self.now.layout.lawful in
     let state = g.S.ReadableStorageTraits.state c.args.self.now.storage in
@@ -71,92 +68,42 @@ returns-in_err-done-clause-outside g c =
     let chunk = box_at layout.grid index in
     let over = overlap_of region chunk in
     let t = c.args.target.now in
+    let l = c.subdivide-part.new.self in
     let p = c.subdivide-part.result.target in
     let q = c.copy_fill_value_into-done.new.target in
     let u = c.rejoin.new.self in
+    let lent = c.subdivide-part.ensures in
     let written = c.copy_fill_value_into-done.ensures in
-    let back : IsTakenBack t p q u = record {
-      parent = c.subdivide-part.ensures.same_parent;
-      lent_masks = c.subdivide-part.ensures.masks;
-      lent_bytes = c.subdivide-part.ensures.bytes;
-      written = written.same_box;
-      joined = same_twice t c.subdivide-part.new.self u c.subdivide-part.ensures.same_box c.rejoin.ensures.same_box;
-      joined_masks = c.rejoin.ensures.masks;
-      joined_bytes = c.rejoin.ensures.bytes;
-    } in
     let made = box_of c.in-Some.own in
+    let lends : IsTakenBack made t l p q u = record { bytes = lent.bytes; masks = lent.masks; lent = lent.lent; kept = written.kept; back = c.rejoin.ensures } in
     let is : IsSharedIn (target_box t) region chunk made = rw c.in-Some.is at c.in_ok-own.ensures.some in
-    let made_is : target_box p ≡ made = ap box_of c.subdivide-part.ensures.region in
-    let region_long = c.args.region.now.same_length in
-    let chunk_long = box_long layout.grid index in
-    back_stays t p q u back t.region.now.same_length region chunk made region_long chunk_long c.requires.same_shape is made_is written.outside
-
-pub returns-clause-read : goal.returns-clause-read
-returns-clause-read g c =
-    let layout = layout_of c.args.self.now in
-    let lawful = c.args.self.now.layout.lawful in
-    let state = g.S.ReadableStorageTraits.state c.args.self.now.storage in
-    let index = c.args.chunk_indices.now in
-    let region = box_of c.args.region.now in
-    let chunk = box_at layout.grid index in
-    let over = overlap_of region chunk in
-    let t = c.args.target.now in
-    let p = c.subdivide-part.result.target in
-    let q = c.copy_fill_value_into-done.new.target in
-    let u = c.rejoin.new.self in
-    let written = c.copy_fill_value_into-done.ensures in
-    let back : IsTakenBack t p q u = record {
-      parent = c.subdivide-part.ensures.same_parent;
-      lent_masks = c.subdivide-part.ensures.masks;
-      lent_bytes = c.subdivide-part.ensures.bytes;
-      written = written.same_box;
-      joined = same_twice t c.subdivide-part.new.self u c.subdivide-part.ensures.same_box c.rejoin.ensures.same_box;
-      joined_masks = c.rejoin.ensures.masks;
-      joined_bytes = c.rejoin.ensures.bytes;
-    } in
-    let made = box_of c.in-Some.own in
-    let is : IsSharedIn (target_box t) region chunk made = rw c.in-Some.is at c.in_ok-own.ensures.some in
-    let made_is : target_box p ≡ made = ap box_of c.subdivide-part.ensures.region in
+    let made_is : target_box p ≡ made = lent.bytes.region in
     let region_long = c.args.region.now.same_length in
     let chunk_long = box_long layout.grid index in
     let over_long = is_long region chunk over (seen_from over chunk.start) region_long chunk_long is.shared in
     let fills = rw c.in_ok-done.was at written.fills in
     let read : HasPositions layout over state (parent_box p) (target_box p) (data_of_target q) =
     filled_positions layout lawful state (parent_box p) (target_box p) (origin_long p.parent_shape.now) p.region.now.same_length
-    (lies_at_origin (target_box p) p.parent_shape.now c.subdivide-part.ensures.target.inside) over (data_of_target p) (data_of_target q) over_long (ap (λ (b : Box). b.shape) (made_is ∙ is.made_is))
+    (lies_at_origin (target_box p) p.parent_shape.now p.whole.inside) over (data_of_target p) (data_of_target q) over_long (ap (λ (b : Box). b.shape) (made_is ∙ is.made_is))
     (λ position holds.
     absent_fill layout (value_at state) lawful index c.requires.boxed c.requires.absent position (holds_inside over chunk position over_long chunk_long is.shared.in_chunk holds))
     fills in
-    back_reads t p q u back t.region.now.same_length region chunk made region_long chunk_long c.requires.same_shape is made_is written.outside
-    layout lawful state c.args.filled index c.requires.boxed refl c.requires.target c.requires.takes read
-    (λ covers broken. let clash : None ≡ Some broken.encoded = sym c.requires.absent ∙ broken.stands in cc)
+    let read =
+    back_reads made t l p q u lends region chunk region_long chunk_long c.requires.target.same_shape is
+    layout lawful state c.args.filled index c.requires.boxed refl c.requires.target.takes read
+    (λ covers broken. let clash : None ≡ Some broken.encoded = sym c.requires.absent ∙ broken.stands in cc) in
+    record { kept = back_kept made t l p q u lends region chunk region_long chunk_long c.requires.target.same_shape is; read = read; refused = tt }
 
-pub returns-clause-outside : goal.returns-clause-outside
-returns-clause-outside g c =
+pub returns-in_err-done : goal.returns-in_err-done
+returns-in_err-done g c =
     let layout = layout_of c.args.self.now in
-    let lawful = c.args.self.now.layout.lawful in
-    let state = g.S.ReadableStorageTraits.state c.args.self.now.storage in
     let index = c.args.chunk_indices.now in
-    let region = box_of c.args.region.now in
-    let chunk = box_at layout.grid index in
-    let over = overlap_of region chunk in
     let t = c.args.target.now in
-    let p = c.subdivide-part.result.target in
-    let q = c.copy_fill_value_into-done.new.target in
-    let u = c.rejoin.new.self in
-    let written = c.copy_fill_value_into-done.ensures in
-    let back : IsTakenBack t p q u = record {
-      parent = c.subdivide-part.ensures.same_parent;
-      lent_masks = c.subdivide-part.ensures.masks;
-      lent_bytes = c.subdivide-part.ensures.bytes;
-      written = written.same_box;
-      joined = same_twice t c.subdivide-part.new.self u c.subdivide-part.ensures.same_box c.rejoin.ensures.same_box;
-      joined_masks = c.rejoin.ensures.masks;
-      joined_bytes = c.rejoin.ensures.bytes;
-    } in
+    let lent = c.subdivide-part.ensures in
     let made = box_of c.in-Some.own in
-    let is : IsSharedIn (target_box t) region chunk made = rw c.in-Some.is at c.in_ok-own.ensures.some in
-    let made_is : target_box p ≡ made = ap box_of c.subdivide-part.ensures.region in
-    let region_long = c.args.region.now.same_length in
-    let chunk_long = box_long layout.grid index in
-    back_stays t p q u back t.region.now.same_length region chunk made region_long chunk_long c.requires.same_shape is made_is written.outside
+    let chunk = box_at layout.grid index in
+    let is : IsSharedIn (target_box t) (box_of c.args.region.now) chunk made = rw c.in-Some.is at c.in_ok-own.ensures.some in
+    let kept = back_kept made t c.subdivide-part.new.self c.subdivide-part.result.target c.copy_fill_value_into-done.new.target c.rejoin.new.self
+    (record { bytes = lent.bytes; masks = lent.masks; lent = lent.lent; kept = c.copy_fill_value_into-done.ensures.kept; back = c.rejoin.ensures }) (box_of c.args.region.now) chunk c.args.region.now.same_length
+    (box_long layout.grid index) c.requires.target.same_shape is in
+    search (rules, kept)

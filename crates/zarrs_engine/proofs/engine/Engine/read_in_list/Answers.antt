@@ -53,6 +53,6 @@ returns-clause-read g c =
     c.read_into_list.auto.masks ∙ ap length c.deref_mut-2.ensures.value ∙ c.in_ok-masks.ensures ∙ ap (λ m. m * form.depth) count in
     let are = subst (λ (m : List ℕ). AreFlags m flags) masks_are (c.into_flags.ensures.len, c.into_flags.ensures.same) in
     let read =
-    lists_read layout region chunks state form.size form.depth masks flags bytes c.requires.cover c.requires.takes (element_size-positive c.args.self.now.layout.data_type) bytes_len masks_len are
+    lists_read layout region chunks state form.size form.depth masks flags bytes c.requires.cover c.requires.takes (element_size-positive c.args.self.now.layout.cell_type.data_type) bytes_len masks_len are
     c.in_ok-read_into_list.ensures.read in
     subst (λ (d : ArrayData). ReadsRegion layout region chunks d state) (sym made_is) read

@@ -1,7 +1,7 @@
 use Rattle.std.proofs.Common.{◌≡◌, ◌-◌, take, length}
 use Rattle.zarrs_subset.specs.Regions.{box_of, positions}
 use Rattle.zarrs_subset.specs.Walks.{walk_box, walk_number}
-use Rattle.zarrs_data_type.specs.States.{IsTarget, SameBox, StaysOutside, data_of_target, parent_box, target_box}
+use Rattle.zarrs_data_type.specs.States.{KeepsTarget, data_of_target, parent_box, target_box}
 use Rattle.zarrs_engine.specs.Engine.{layout_of, store_of}
 use Rattle.zarrs_engine.specs.TargetReads.{HasReadSoFar}
 use Rattle.zarrs_engine.proofs.engine.Engine.read_into.Given as goal
@@ -10,11 +10,7 @@ use Rattle.zarrs_engine.proofs.engine.Engine.read_into.Given as goal
 abbrev pub invariant-loop-walk : goal.invariant-loop-walk
 invariant-loop-walk g l = record {
   same_box : walk_box l.walk ≡ box_of l.chunks;
-  is_target : IsTarget l.target;
-  same_bytes : l.target.bytes.ghost_name ≡ l.initial.target.bytes.ghost_name;
-  same_masks : l.target.masks.ghost_name ≡ l.initial.target.masks.ghost_name;
-  same_target : SameBox l.initial.target l.target;
-  stays : StaysOutside l.initial.target l.target;
+  kept : KeepsTarget l.initial.target l.target;
   read :
       HasReadSoFar (layout_of l.self) l.fn.filled (box_of l.region) (take (walk_number l.walk) (positions (box_of l.chunks))) (store_of g.S.ReadableStorageTraits.state l.self)
       (parent_box l.initial.target) (target_box l.initial.target) (data_of_target l.target);

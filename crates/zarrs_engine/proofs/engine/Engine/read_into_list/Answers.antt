@@ -28,5 +28,5 @@ read_into-requires-clause-filled g c = λ is.
     let plain : form.depth ≡ 0 = eqb-true form.depth 0 is in
     let whole : box_of c.in_ok-own.own ≡ box_at_origin region.shape =
     c.in_ok-own.ensures ∙ ap box_at_origin (c.in_ok-to_vec.ensures.items_if_clones_equal (λ x y same. same) ∙ c.shape.ensures) in
-    let are = subst (λ (b : List ℕ). cells layout.kind (fixed b) ≡ Some (replicate (position_count region.shape) layout.fill)) (sym e.bytes) (c.requires.filled plain) in
-    list_filled layout region t.parent_shape.now (target_box t) t.depth t.masks.now t.bytes.now c.args.region.now.same_length (e.depth ∙ plain) (e.parent_shape ∙ c.shape-2.ensures) (ap box_of e.region ∙ whole) are
+    let are = subst (λ (b : List ℕ). cells layout.kind (fixed b) ≡ Some (replicate (position_count region.shape) layout.fill)) (sym e.bytes.bytes) (c.requires.filled plain) in
+    list_filled layout region t.parent_shape.now (target_box t) t.depth t.masks.now t.bytes.now c.args.region.now.same_length (e.bytes.depth ∙ plain) (e.bytes.parent_shape ∙ c.shape-2.ensures) (e.bytes.region ∙ whole) are

@@ -12,7 +12,7 @@ use Rattle.zarrs_engine_calls.specs.Refusals.{RefusesBy, refusal_of}
 use Rattle.zarrs_engine_calls.specs.StateRefusals.{RefusesSomeChunk}
 use Rattle.zarrs_engine.specs.Engine.{layout_of}
 use Rattle.zarrs_engine.specs.RegionReads.{DecodesStored, HasRead, IsRegionOf}
-use Rattle.zarrs_engine.proofs.PartReads.{absent_filled, empty_filled, filled_read, filled_refused, region_absent, region_decoded, region_empty}
+use Rattle.zarrs_engine.proofs.PartReads.{absent_filled, empty_filled, filled_read, filled_refused, region_absent, region_decoded, region_empty, region_seen}
 use Rattle.zarrs_engine.proofs.Puts.{each_error}
 use Rattle.zarrs_engine.proofs.engine.Engine.read_part.Goals as goal
 
@@ -47,7 +47,7 @@ returns-in_err-made-clause-refused g c =
     let state = g.S.ReadableStorageTraits.state c.args.self.now.storage in
     let index = c.args.chunk_indices.now in
     let why : (region : Box) → IsRegionOf layout index (box_of c.args.part.now) region → RefusesSomeChunk layout region (index ∷ []) state (refusal_of c.in_err-made.field-0.0) =
-    λ region is. c.in_err-made.ensures.refused region is.proper in
+    λ region is. c.in_err-made.ensures.refused region is.proper (region_seen layout index (box_of c.args.part.now) region is) in
     search (rules, why)
 
 pub returns-in-Some-clause-read : goal.returns-in-Some-clause-read

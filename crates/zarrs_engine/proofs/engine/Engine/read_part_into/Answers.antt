@@ -1,13 +1,12 @@
 use Rattle.std.proofs.Common.{◌≡◌, ◌∙◌, ℕ, List, [], ◌∷◌, true, Some, ap, refl, sym, subst, rules}
 use Rattle.std.proofs.lemmas.Result.{IfErr-weaker, on_ok_weaker}
-use Rattle.zarrs_subset.specs.Boxes.{position_count}
 use Rattle.zarrs_subset.specs.Regions.{Box, LiesInShape, box_of, overlap_of}
 use Rattle.zarrs_chunk_grid.specs.Grids.{box_at}
 use Rattle.zarrs_chunk_grid.proofs.Chunks.{box_long}
 use Rattle.zarrs_storage.specs.Store.{StoreState}
 use Rattle.zarrs_data_type.specs.States.{data_of_target, parent_box, target_box}
+use Rattle.zarrs_data_type_region.proofs.Kept.{keeps_itself}
 use Rattle.zarrs_data_type_region.proofs.TargetBoxes.{lies_at_origin, origin_long}
-use Rattle.zarrs_data_type_region.proofs.TargetLevels.{masked_keeps}
 use Rattle.zarrs_codec_chain.specs.Parts.{DecodesPartAt}
 use Rattle.zarrs_codec_leaf.specs.Stored.{key_of_source, state_of_source, value_or_empty}
 use Rattle.zarrs_engine_calls.specs.Content.{value_at}
@@ -18,16 +17,16 @@ use Rattle.zarrs_engine_calls.proofs.Contents.{index_list}
 use Rattle.zarrs_engine_layout.specs.Shared.{IsSharedIn}
 use Rattle.zarrs_engine_layout.specs.Steps.{RefusesPartBytes}
 use Rattle.zarrs_engine.specs.Engine.{layout_of}
-use Rattle.zarrs_engine.proofs.IntoReads.{same_takes, same_twice}
-use Rattle.zarrs_engine.proofs.LentParts.{IsTakenBack, back_reads, back_stays, made_lies}
+use Rattle.zarrs_engine.proofs.IntoReads.{same_takes}
+use Rattle.zarrs_engine.proofs.LentParts.{IsTakenBack, back_kept, back_reads, made_lies}
 use Rattle.zarrs_engine.proofs.PartBytes.{box_why, key_why, part_why, source_value}
 use Rattle.zarrs_engine.proofs.TargetReads.{into_apart, part_positions}
 use Rattle.zarrs_engine.proofs.engine.Engine.read_part_into.Goals as goal
 
-pub returns-in_err-key-clause-outside : goal.returns-in_err-key-clause-outside
-returns-in_err-key-clause-outside g c =
-    let t = c.args.target.now in
-    masked_keeps t.cell_size (parent_box t) (target_box t) t.depth (position_count t.parent_shape.now) t.masks.now t.bytes.now
+pub returns-in_err-key : goal.returns-in_err-key
+returns-in_err-key g c =
+    let kept = keeps_itself c.args.target.now in
+    search (rules, kept)
 
 pub open-requires : goal.open-requires
 open-requires g c =
@@ -39,13 +38,8 @@ open-requires g c =
     let words = index_list layout c.args.self.now.layout.lawful index c.requires.boxed in
     subst (λ (key : List ℕ). state.may_ask key ≡ true) (sym c.in_ok-key.ensures.key) (c.requires.ask.key words)
 
-pub returns-in_err-source-clause-outside : goal.returns-in_err-source-clause-outside
-returns-in_err-source-clause-outside g c =
-    let t = c.args.target.now in
-    masked_keeps t.cell_size (parent_box t) (target_box t) t.depth (position_count t.parent_shape.now) t.masks.now t.bytes.now
-
-pub returns-in_err-source-clause-refused : goal.returns-in_err-source-clause-refused
-returns-in_err-source-clause-refused g c =
+pub returns-in_err-source : goal.returns-in_err-source
+returns-in_err-source g c =
     let layout = layout_of c.args.self.now in
     let state = g.S.ReadableStorageTraits.state c.args.self.now.storage in
     let region = box_of c.args.region.now in
@@ -53,7 +47,8 @@ returns-in_err-source-clause-refused g c =
     let chunk = box_at layout.grid index in
     let e = c.in_err-source.field-0.0 in
     let why : RefusesSomeChunk layout region (index ∷ []) state (refusal_of (error_of_storage e)) = key_why layout region index state c.requires.boxed _ e c.in_ok-key.ensures.key c.in_err-source.ensures.refused in
-    search (rules, why)
+    let kept = keeps_itself c.args.target.now in
+    search (rules, why, kept)
 
 pub read_absent_into-requires-clause-absent : goal.read_absent_into-requires-clause-absent
 read_absent_into-requires-clause-absent g c =
@@ -64,70 +59,64 @@ read_absent_into-requires-clause-absent g c =
     let chunk = box_at layout.grid index in
     ap (value_at state) (sym c.in_ok-key.ensures.key) ∙ (rw c.in_default.is at c.in_ok-source.ensures.absent)
 
-pub returns-in_err-extents-clause-refused : goal.returns-in_err-extents-clause-refused
-returns-in_err-extents-clause-refused g c =
+pub returns-in_err-extents : goal.returns-in_err-extents
+returns-in_err-extents g c =
     let layout = layout_of c.args.self.now in
     let state = g.S.ReadableStorageTraits.state c.args.self.now.storage in
     let region = box_of c.args.region.now in
     let index = c.args.chunk_indices.now in
     let chunk = box_at layout.grid index in
     let why = box_why layout region index state c.requires.boxed (refusal_of c.in_err-extents.field-0.0) c.in_err-extents.ensures.refused in
-    search (rules, why)
+    let kept = keeps_itself c.args.target.now in
+    search (rules, why, kept)
 
-pub returns-in_err-extents-clause-outside : goal.returns-in_err-extents-clause-outside
-returns-in_err-extents-clause-outside g c =
-    let t = c.args.target.now in
-    masked_keeps t.cell_size (parent_box t) (target_box t) t.depth (position_count t.parent_shape.now) t.masks.now t.bytes.now
+pub returns-in_err-part : goal.returns-in_err-part
+returns-in_err-part g c =
+    let kept = keeps_itself c.args.target.now in
+    search (rules, kept)
 
-pub returns-in_err-part-clause-outside : goal.returns-in_err-part-clause-outside
-returns-in_err-part-clause-outside g c =
-    let t = c.args.target.now in
-    masked_keeps t.cell_size (parent_box t) (target_box t) t.depth (position_count t.parent_shape.now) t.masks.now t.bytes.now
-
-pub returns-in_default-2-clause-read : goal.returns-in_default-2-clause-read
-returns-in_default-2-clause-read g c =
+pub returns-in_default-2 : goal.returns-in_default-2
+returns-in_default-2 g c =
     let layout = layout_of c.args.self.now in
     let state = g.S.ReadableStorageTraits.state c.args.self.now.storage in
     let t = c.args.target.now in
     let apart = rw c.in_default-2.is at c.in_ok-part.ensures.none in
-    into_apart layout c.args.self.now.layout.lawful (box_of c.args.region.now) state (parent_box t) (target_box t) c.args.filled c.args.chunk_indices.now c.requires.boxed (data_of_target t) apart
+    let read =
+    into_apart layout c.args.self.now.layout.lawful (box_of c.args.region.now) state (parent_box t) (target_box t) c.args.filled c.args.chunk_indices.now c.requires.boxed (data_of_target t) apart in
+    record { kept = keeps_itself t; read = read; refused = tt }
 
-pub returns-in_default-2-clause-outside : goal.returns-in_default-2-clause-outside
-returns-in_default-2-clause-outside g c =
-    let t = c.args.target.now in
-    masked_keeps t.cell_size (parent_box t) (target_box t) t.depth (position_count t.parent_shape.now) t.masks.now t.bytes.now
+pub returns-in_err-own : goal.returns-in_err-own
+returns-in_err-own g c =
+    let kept = keeps_itself c.args.target.now in
+    search (rules, kept)
 
-pub returns-in_err-own-clause-outside : goal.returns-in_err-own-clause-outside
-returns-in_err-own-clause-outside g c =
-    let t = c.args.target.now in
-    masked_keeps t.cell_size (parent_box t) (target_box t) t.depth (position_count t.parent_shape.now) t.masks.now t.bytes.now
-
-pub returns-in_default-3-clause-read : goal.returns-in_default-3-clause-read
-returns-in_default-3-clause-read g c =
+pub returns-in_default-3 : goal.returns-in_default-3
+returns-in_default-3 g c =
     let layout = layout_of c.args.self.now in
     let state = g.S.ReadableStorageTraits.state c.args.self.now.storage in
     let t = c.args.target.now in
     let apart = rw c.in_default-3.is at c.in_ok-own.ensures.none in
-    into_apart layout c.args.self.now.layout.lawful (box_of c.args.region.now) state (parent_box t) (target_box t) c.args.filled c.args.chunk_indices.now c.requires.boxed (data_of_target t) apart
+    let read =
+    into_apart layout c.args.self.now.layout.lawful (box_of c.args.region.now) state (parent_box t) (target_box t) c.args.filled c.args.chunk_indices.now c.requires.boxed (data_of_target t) apart in
+    record { kept = keeps_itself t; read = read; refused = tt }
 
-pub returns-in_default-3-clause-outside : goal.returns-in_default-3-clause-outside
-returns-in_default-3-clause-outside g c =
-    let t = c.args.target.now in
-    masked_keeps t.cell_size (parent_box t) (target_box t) t.depth (position_count t.parent_shape.now) t.masks.now t.bytes.now
-
-pub subdivide-lent-requires-clause-inside : goal.subdivide-lent-requires-clause-inside
-subdivide-lent-requires-clause-inside g c =
+pub subdivide-lent-requires : goal.subdivide-lent-requires
+subdivide-lent-requires g c =
     let layout = layout_of c.args.self.now in
     let t = c.args.target.now in
     let index = c.args.chunk_indices.now in
-    made_lies (target_box t) (box_of c.args.region.now) (box_at layout.grid index) (box_of c.in-Some-3.own) t.region.now.same_length c.args.region.now.same_length (box_long layout.grid index) c.requires.same_shape
-    (rw c.in-Some-3.is at c.in_ok-own.ensures.some)
+    let is : IsSharedIn (target_box t) (box_of c.args.region.now) (box_at layout.grid index) (box_of c.in-Some-3.own) = rw c.in-Some-3.is at c.in_ok-own.ensures.some in
+    record {
+      inside =
+          made_lies (target_box t) (box_of c.args.region.now) (box_at layout.grid index) (box_of c.in-Some-3.own) t.region.now.same_length c.args.region.now.same_length (box_long layout.grid index)
+          c.requires.target.same_shape is;
+    }
 
 pub decode_part_into-done-requires-clause-takes : goal.decode_part_into-done-requires-clause-takes
 decode_part_into-done-requires-clause-takes g c =
     let p = c.subdivide-lent.result.target in
-    let same = c.subdivide-lent.ensures.same_parent in
-    same_takes c.args.target.now p (layout_of c.args.self.now).kind same.cell_size same.depth c.requires.takes
+    let same = c.subdivide-lent.ensures.bytes in
+    same_takes c.args.target.now p (layout_of c.args.self.now).kind same.cell_size same.depth c.requires.target.takes
 
 pub decode_part_into-done-requires-clause-part : goal.decode_part_into-done-requires-clause-part
 decode_part_into-done-requires-clause-part g c =
@@ -171,10 +160,10 @@ decode_part_into-done-requires-clause-same_shape g c =
     let t = c.args.target.now in
     let shared = rw c.in-Some-2.is at c.in_ok-part.ensures.some in
     let is = rw c.in-Some-3.is at c.in_ok-own.ensures.some in
-    ap (λ (b : Box). b.shape) (ap box_of c.subdivide-lent.ensures.region ∙ is.made_is) ∙ sym (ap (λ (b : Box). b.shape) shared.part_is)
+    ap (λ (b : Box). b.shape) (c.subdivide-lent.ensures.bytes.region ∙ is.made_is) ∙ sym (ap (λ (b : Box). b.shape) shared.part_is)
 
-pub returns-clause-read : goal.returns-clause-read
-returns-clause-read g c =
+pub returns : goal.returns
+returns g c =
     let layout = layout_of c.args.self.now in
     let lawful = c.args.self.now.layout.lawful in
     let state = g.S.ReadableStorageTraits.state c.args.self.now.storage in
@@ -183,22 +172,16 @@ returns-clause-read g c =
     let chunk = box_at layout.grid index in
     let over = overlap_of region chunk in
     let t = c.args.target.now in
+    let l = c.subdivide-lent.new.self in
     let p = c.subdivide-lent.result.target in
     let q = c.decode_part_into-done.new.target in
     let u = c.rejoin.new.self in
+    let lent = c.subdivide-lent.ensures in
     let written = c.decode_part_into-done.ensures in
-    let back : IsTakenBack t p q u = record {
-      parent = c.subdivide-lent.ensures.same_parent;
-      lent_masks = c.subdivide-lent.ensures.masks;
-      lent_bytes = c.subdivide-lent.ensures.bytes;
-      written = written.same_box;
-      joined = same_twice t c.subdivide-lent.new.self u c.subdivide-lent.ensures.same_box c.rejoin.ensures.same_box;
-      joined_masks = c.rejoin.ensures.masks;
-      joined_bytes = c.rejoin.ensures.bytes;
-    } in
     let made = box_of c.in-Some-3.own in
+    let lends : IsTakenBack made t l p q u = record { bytes = lent.bytes; masks = lent.masks; lent = lent.lent; kept = written.kept; back = c.rejoin.ensures } in
     let is : IsSharedIn (target_box t) region chunk made = rw c.in-Some-3.is at c.in_ok-own.ensures.some in
-    let made_is : target_box p ≡ made = ap box_of c.subdivide-lent.ensures.region in
+    let made_is : target_box p ≡ made = lent.bytes.region in
     let region_long = c.args.region.now.same_length in
     let chunk_long = box_long layout.grid index in
     let source = c.in-Some.source in
@@ -209,63 +192,24 @@ returns-clause-read g c =
     let shared = rw c.in-Some-2.is at c.in_ok-part.ensures.some in
     let shape : c.as_slice-shape.result.now ≡ chunk.shape = c.as_slice-shape.ensures ∙ c.in_ok-extents.ensures.shape in
     let bytes = value_or_empty (state_of_source source) (key_of_source source) in
-    on_ok_weaker c.decode_part_into-done.result
-    (λ decodes.
-    let cells = subst (λ (s : List ℕ). DecodesPartAt layout.kind s part (layout.chain.decoded layout.kind layout.fill s bytes) (parent_box p) (target_box p) (data_of_target q)) shape decodes in
-    let read = part_positions layout lawful state (parent_box p) (target_box p) (origin_long p.parent_shape.now) p.region.now.same_length
-    (lies_at_origin (target_box p) p.parent_shape.now c.subdivide-lent.ensures.target.inside) index c.requires.boxed region over part bytes (data_of_target q) region_long shared
-    (ap (λ (b : Box). b.shape) (made_is ∙ is.made_is)) (found.1 ∙ ap Some (sym found.2)) cells in
-    back_reads t p q u back t.region.now.same_length region chunk made region_long chunk_long c.requires.same_shape is made_is written.outside
-    layout lawful state c.args.filled index c.requires.boxed refl c.requires.target c.requires.takes read (λ covers broken. c.requires.part covers))
-    written.cells
-
-pub returns-clause-refused : goal.returns-clause-refused
-returns-clause-refused g c =
-    let layout = layout_of c.args.self.now in
-    let state = g.S.ReadableStorageTraits.state c.args.self.now.storage in
-    let region = box_of c.args.region.now in
-    let index = c.args.chunk_indices.now in
-    let chunk = box_at layout.grid index in
-    let source = c.in-Some.source in
-    let state_is : state_of_source source ≡ state = rw c.in-Some.is at c.in_ok-source.ensures.state in
-    let key_is : key_of_source source ≡ layout.key index = (rw c.in-Some.is at c.in_ok-source.ensures.key) ∙ c.in_ok-key.ensures.key in
-    let found = source_value (state_of_source source) state (key_of_source source) (layout.key index) source.size state_is key_is source.sized in
-    let bytes = value_or_empty (state_of_source source) (key_of_source source) in
-    let shape : c.as_slice-shape.result.now ≡ chunk.shape = c.as_slice-shape.ensures ∙ c.in_ok-extents.ensures.shape in
     let same : (state_of_source source).refuses (key_of_source source) ≡ state.refuses (layout.key index) =
     ap (λ (s : StoreState). s.refuses (key_of_source source)) state_is ∙ ap state.refuses key_is in
-    IfErr-weaker c.decode_part_into-done.result _ _
-    (λ e why.
-    part_why layout region index state c.requires.boxed c.requires.part bytes ((state_of_source source).refuses (key_of_source source)) chunk refl same (found.1 ∙ ap Some (sym found.2)) (refusal_of e)
-    (subst (λ (s : List ℕ). RefusesPartBytes layout (record { start = chunk.start; shape = s }) bytes ((state_of_source source).refuses (key_of_source source)) (refusal_of e)) shape why))
-    c.decode_part_into-done.ensures.refused
-
-pub returns-clause-outside : goal.returns-clause-outside
-returns-clause-outside g c =
-    let layout = layout_of c.args.self.now in
-    let lawful = c.args.self.now.layout.lawful in
-    let state = g.S.ReadableStorageTraits.state c.args.self.now.storage in
-    let index = c.args.chunk_indices.now in
-    let region = box_of c.args.region.now in
-    let chunk = box_at layout.grid index in
-    let over = overlap_of region chunk in
-    let t = c.args.target.now in
-    let p = c.subdivide-lent.result.target in
-    let q = c.decode_part_into-done.new.target in
-    let u = c.rejoin.new.self in
-    let written = c.decode_part_into-done.ensures in
-    let back : IsTakenBack t p q u = record {
-      parent = c.subdivide-lent.ensures.same_parent;
-      lent_masks = c.subdivide-lent.ensures.masks;
-      lent_bytes = c.subdivide-lent.ensures.bytes;
-      written = written.same_box;
-      joined = same_twice t c.subdivide-lent.new.self u c.subdivide-lent.ensures.same_box c.rejoin.ensures.same_box;
-      joined_masks = c.rejoin.ensures.masks;
-      joined_bytes = c.rejoin.ensures.bytes;
-    } in
-    let made = box_of c.in-Some-3.own in
-    let is : IsSharedIn (target_box t) region chunk made = rw c.in-Some-3.is at c.in_ok-own.ensures.some in
-    let made_is : target_box p ≡ made = ap box_of c.subdivide-lent.ensures.region in
-    let region_long = c.args.region.now.same_length in
-    let chunk_long = box_long layout.grid index in
-    back_stays t p q u back t.region.now.same_length region chunk made region_long chunk_long c.requires.same_shape is made_is written.outside
+    record {
+      kept = back_kept made t l p q u lends region chunk region_long chunk_long c.requires.target.same_shape is;
+      read =
+          on_ok_weaker c.decode_part_into-done.result
+          (λ decodes.
+          let cells = subst (λ (s : List ℕ). DecodesPartAt layout.kind s part (layout.chain.decoded layout.kind layout.fill s bytes) (parent_box p) (target_box p) (data_of_target q)) shape decodes in
+          let read = part_positions layout lawful state (parent_box p) (target_box p) (origin_long p.parent_shape.now) p.region.now.same_length
+          (lies_at_origin (target_box p) p.parent_shape.now p.whole.inside) index c.requires.boxed region over part bytes (data_of_target q) region_long shared
+          (ap (λ (b : Box). b.shape) (made_is ∙ is.made_is)) (found.1 ∙ ap Some (sym found.2)) cells in
+          back_reads made t l p q u lends region chunk region_long chunk_long c.requires.target.same_shape is
+          layout lawful state c.args.filled index c.requires.boxed refl c.requires.target.takes read (λ covers broken. c.requires.part covers))
+          written.cells;
+      refused =
+          IfErr-weaker c.decode_part_into-done.result _ _
+          (λ e why.
+          part_why layout region index state c.requires.boxed c.requires.part part shared.part_is bytes ((state_of_source source).refuses (key_of_source source)) chunk refl same (found.1 ∙ ap Some (sym found.2)) (refusal_of e)
+          (subst (λ (s : List ℕ). RefusesPartBytes layout (record { start = chunk.start; shape = s }) part bytes ((state_of_source source).refuses (key_of_source source)) (refusal_of e)) shape why))
+          written.refused;
+    }

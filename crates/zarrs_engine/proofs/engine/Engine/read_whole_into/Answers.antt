@@ -1,11 +1,10 @@
 use Rattle.std.proofs.Common.{◌≡◌, ◌∙◌, ℕ, List, None, Some, ap, refl, sym, subst, rules}
-use Rattle.zarrs_subset.specs.Boxes.{position_count}
 use Rattle.zarrs_subset.specs.Regions.{Box, box_of, overlap_of}
 use Rattle.zarrs_chunk_grid.specs.Grids.{box_at}
 use Rattle.zarrs_chunk_grid.proofs.Chunks.{box_long}
 use Rattle.zarrs_data_type.specs.States.{data_of_target, parent_box, target_box}
+use Rattle.zarrs_data_type_region.proofs.Kept.{keeps_itself}
 use Rattle.zarrs_data_type_region.proofs.TargetBoxes.{lies_at_origin, origin_long}
-use Rattle.zarrs_data_type_region.proofs.TargetLevels.{masked_keeps}
 use Rattle.zarrs_codec_chain.specs.Parts.{DecodesInto}
 use Rattle.zarrs_codec_chain.specs.PartRefusals.{RefusesIntoDecoding}
 use Rattle.zarrs_codec_chain.proofs.MovedBoxes.{overlap_inside}
@@ -15,90 +14,57 @@ use Rattle.zarrs_engine_layout.specs.Shared.{IsSharedIn}
 use Rattle.zarrs_engine_layout.proofs.RegionRefusals.{some_key}
 use Rattle.zarrs_engine.specs.Engine.{layout_of}
 use Rattle.zarrs_engine.specs.TargetReads.{HasPositions}
-use Rattle.zarrs_engine.proofs.IntoReads.{into_why, same_takes, same_twice}
-use Rattle.zarrs_engine.proofs.LentParts.{IsTakenBack, back_reads, back_stays, made_lies}
+use Rattle.zarrs_engine.proofs.IntoReads.{into_why, same_takes}
+use Rattle.zarrs_engine.proofs.LentParts.{IsTakenBack, back_kept, back_reads, made_lies}
 use Rattle.zarrs_engine.proofs.TargetReads.{decoded_positions, into_apart}
 use Rattle.zarrs_engine.proofs.engine.Engine.read_whole_into.Goals as goal
 
-pub returns-in_err-encoded-clause-refused : goal.returns-in_err-encoded-clause-refused
-returns-in_err-encoded-clause-refused g c =
+pub returns-in_err-encoded : goal.returns-in_err-encoded
+returns-in_err-encoded g c =
     let layout = layout_of c.args.self.now in
     let state = g.S.ReadableStorageTraits.state c.args.self.now.storage in
     let why = some_key layout (box_of c.args.region.now) c.args.chunk_indices.now state c.requires.boxed (refusal_of c.in_err-encoded.field-0.0) c.in_err-encoded.ensures.refused in
-    search (rules, why)
-
-pub returns-in_err-encoded-clause-outside : goal.returns-in_err-encoded-clause-outside
-returns-in_err-encoded-clause-outside g c =
-    let t = c.args.target.now in
-    masked_keeps t.cell_size (parent_box t) (target_box t) t.depth (position_count t.parent_shape.now) t.masks.now t.bytes.now
+    let kept = keeps_itself c.args.target.now in
+    search (rules, why, kept)
 
 pub read_absent_into-requires-clause-absent : goal.read_absent_into-requires-clause-absent
 read_absent_into-requires-clause-absent g c = sym c.in_ok-encoded.ensures.value ∙ c.in_default.is
 
-pub returns-in_err-own-clause-outside : goal.returns-in_err-own-clause-outside
-returns-in_err-own-clause-outside g c =
-    let t = c.args.target.now in
-    masked_keeps t.cell_size (parent_box t) (target_box t) t.depth (position_count t.parent_shape.now) t.masks.now t.bytes.now
+pub returns-in_err-own : goal.returns-in_err-own
+returns-in_err-own g c =
+    let kept = keeps_itself c.args.target.now in
+    search (rules, kept)
 
-pub returns-in_default-2-clause-read : goal.returns-in_default-2-clause-read
-returns-in_default-2-clause-read g c =
+pub returns-in_default-2 : goal.returns-in_default-2
+returns-in_default-2 g c =
     let layout = layout_of c.args.self.now in
     let state = g.S.ReadableStorageTraits.state c.args.self.now.storage in
     let t = c.args.target.now in
     let apart = rw c.in_default-2.is at c.in_ok-own.ensures.none in
-    into_apart layout c.args.self.now.layout.lawful (box_of c.args.region.now) state (parent_box t) (target_box t) c.args.filled c.args.chunk_indices.now c.requires.boxed (data_of_target t) apart
+    let read =
+    into_apart layout c.args.self.now.layout.lawful (box_of c.args.region.now) state (parent_box t) (target_box t) c.args.filled c.args.chunk_indices.now c.requires.boxed (data_of_target t) apart in
+    record { kept = keeps_itself t; read = read; refused = tt }
 
-pub returns-in_default-2-clause-outside : goal.returns-in_default-2-clause-outside
-returns-in_default-2-clause-outside g c =
-    let t = c.args.target.now in
-    masked_keeps t.cell_size (parent_box t) (target_box t) t.depth (position_count t.parent_shape.now) t.masks.now t.bytes.now
-
-pub subdivide-part-requires-clause-inside : goal.subdivide-part-requires-clause-inside
-subdivide-part-requires-clause-inside g c =
+pub subdivide-part-requires : goal.subdivide-part-requires
+subdivide-part-requires g c =
     let layout = layout_of c.args.self.now in
     let t = c.args.target.now in
     let index = c.args.chunk_indices.now in
-    made_lies (target_box t) (box_of c.args.region.now) (box_at layout.grid index) (box_of c.in-Some-2.own) t.region.now.same_length c.args.region.now.same_length (box_long layout.grid index) c.requires.same_shape
-    (rw c.in-Some-2.is at c.in_ok-own.ensures.some)
+    let is : IsSharedIn (target_box t) (box_of c.args.region.now) (box_at layout.grid index) (box_of c.in-Some-2.own) = rw c.in-Some-2.is at c.in_ok-own.ensures.some in
+    record {
+      inside =
+          made_lies (target_box t) (box_of c.args.region.now) (box_at layout.grid index) (box_of c.in-Some-2.own) t.region.now.same_length c.args.region.now.same_length (box_long layout.grid index)
+          c.requires.target.same_shape is;
+    }
 
-pub decode_into-done-requires-clause-takes : goal.decode_into-done-requires-clause-takes
-decode_into-done-requires-clause-takes g c =
+pub decode_into-done-requires : goal.decode_into-done-requires
+decode_into-done-requires g c =
     let p = c.subdivide-part.result.target in
-    let same = c.subdivide-part.ensures.same_parent in
-    same_takes c.args.target.now p (layout_of c.args.self.now).kind same.cell_size same.depth c.requires.takes
+    let same = c.subdivide-part.ensures.bytes in
+    record { takes = same_takes c.args.target.now p (layout_of c.args.self.now).kind same.cell_size same.depth c.requires.target.takes }
 
-pub returns-in_err-done-clause-outside : goal.returns-in_err-done-clause-outside
-returns-in_err-done-clause-outside g c =
-    let layout = layout_of c.args.self.now in
-    let lawful = c.args.self.now.layout.lawful in
-    let state = g.S.ReadableStorageTraits.state c.args.self.now.storage in
-    let index = c.args.chunk_indices.now in
-    let region = box_of c.args.region.now in
-    let chunk = box_at layout.grid index in
-    let over = overlap_of region chunk in
-    let t = c.args.target.now in
-    let p = c.subdivide-part.result.target in
-    let q = c.decode_into-done.new.target in
-    let u = c.rejoin.new.self in
-    let written = c.decode_into-done.ensures in
-    let back : IsTakenBack t p q u = record {
-      parent = c.subdivide-part.ensures.same_parent;
-      lent_masks = c.subdivide-part.ensures.masks;
-      lent_bytes = c.subdivide-part.ensures.bytes;
-      written = written.same_box;
-      joined = same_twice t c.subdivide-part.new.self u c.subdivide-part.ensures.same_box c.rejoin.ensures.same_box;
-      joined_masks = c.rejoin.ensures.masks;
-      joined_bytes = c.rejoin.ensures.bytes;
-    } in
-    let made = box_of c.in-Some-2.own in
-    let is : IsSharedIn (target_box t) region chunk made = rw c.in-Some-2.is at c.in_ok-own.ensures.some in
-    let made_is : target_box p ≡ made = ap box_of c.subdivide-part.ensures.region in
-    let region_long = c.args.region.now.same_length in
-    let chunk_long = box_long layout.grid index in
-    back_stays t p q u back t.region.now.same_length region chunk made region_long chunk_long c.requires.same_shape is made_is written.outside
-
-pub returns-in_err-done-clause-refused : goal.returns-in_err-done-clause-refused
-returns-in_err-done-clause-refused g c =
+pub returns-in_err-done : goal.returns-in_err-done
+returns-in_err-done g c =
     let layout = layout_of c.args.self.now in
     let lawful = c.args.self.now.layout.lawful in
     let state = g.S.ReadableStorageTraits.state c.args.self.now.storage in
@@ -107,22 +73,16 @@ returns-in_err-done-clause-refused g c =
     let chunk = box_at layout.grid index in
     let over = overlap_of region chunk in
     let t = c.args.target.now in
+    let l = c.subdivide-part.new.self in
     let p = c.subdivide-part.result.target in
     let q = c.decode_into-done.new.target in
     let u = c.rejoin.new.self in
+    let lent = c.subdivide-part.ensures in
     let written = c.decode_into-done.ensures in
-    let back : IsTakenBack t p q u = record {
-      parent = c.subdivide-part.ensures.same_parent;
-      lent_masks = c.subdivide-part.ensures.masks;
-      lent_bytes = c.subdivide-part.ensures.bytes;
-      written = written.same_box;
-      joined = same_twice t c.subdivide-part.new.self u c.subdivide-part.ensures.same_box c.rejoin.ensures.same_box;
-      joined_masks = c.rejoin.ensures.masks;
-      joined_bytes = c.rejoin.ensures.bytes;
-    } in
     let made = box_of c.in-Some-2.own in
+    let lends : IsTakenBack made t l p q u = record { bytes = lent.bytes; masks = lent.masks; lent = lent.lent; kept = written.kept; back = c.rejoin.ensures } in
     let is : IsSharedIn (target_box t) region chunk made = rw c.in-Some-2.is at c.in_ok-own.ensures.some in
-    let made_is : target_box p ≡ made = ap box_of c.subdivide-part.ensures.region in
+    let made_is : target_box p ≡ made = lent.bytes.region in
     let region_long = c.args.region.now.same_length in
     let chunk_long = box_long layout.grid index in
     let encoded = c.deref.result.now in
@@ -133,10 +93,11 @@ returns-in_err-done-clause-refused g c =
     let refused = rw c.in_err-done.was at written.refused in
     let said = subst (λ (s : List ℕ). RefusesIntoDecoding (layout.chain.decoded layout.kind layout.fill s encoded) e) shape refused in
     let why = into_why layout region index state encoded e stands said in
-    search (rules, why)
+    let kept = back_kept made t l p q u lends region chunk region_long chunk_long c.requires.target.same_shape is in
+    search (rules, why, kept)
 
-pub returns-clause-read : goal.returns-clause-read
-returns-clause-read g c =
+pub returns : goal.returns
+returns g c =
     let layout = layout_of c.args.self.now in
     let lawful = c.args.self.now.layout.lawful in
     let state = g.S.ReadableStorageTraits.state c.args.self.now.storage in
@@ -145,22 +106,16 @@ returns-clause-read g c =
     let chunk = box_at layout.grid index in
     let over = overlap_of region chunk in
     let t = c.args.target.now in
+    let l = c.subdivide-part.new.self in
     let p = c.subdivide-part.result.target in
     let q = c.decode_into-done.new.target in
     let u = c.rejoin.new.self in
+    let lent = c.subdivide-part.ensures in
     let written = c.decode_into-done.ensures in
-    let back : IsTakenBack t p q u = record {
-      parent = c.subdivide-part.ensures.same_parent;
-      lent_masks = c.subdivide-part.ensures.masks;
-      lent_bytes = c.subdivide-part.ensures.bytes;
-      written = written.same_box;
-      joined = same_twice t c.subdivide-part.new.self u c.subdivide-part.ensures.same_box c.rejoin.ensures.same_box;
-      joined_masks = c.rejoin.ensures.masks;
-      joined_bytes = c.rejoin.ensures.bytes;
-    } in
     let made = box_of c.in-Some-2.own in
+    let lends : IsTakenBack made t l p q u = record { bytes = lent.bytes; masks = lent.masks; lent = lent.lent; kept = written.kept; back = c.rejoin.ensures } in
     let is : IsSharedIn (target_box t) region chunk made = rw c.in-Some-2.is at c.in_ok-own.ensures.some in
-    let made_is : target_box p ≡ made = ap box_of c.subdivide-part.ensures.region in
+    let made_is : target_box p ≡ made = lent.bytes.region in
     let region_long = c.args.region.now.same_length in
     let chunk_long = box_long layout.grid index in
     let encoded = c.deref.result.now in
@@ -170,43 +125,15 @@ returns-clause-read g c =
     let got = rw c.in_ok-done.was at written.cells in
     let cells = subst (λ (s : List ℕ). DecodesInto layout.kind (parent_box p) (target_box p) (layout.chain.decoded layout.kind layout.fill s encoded) (data_of_target q)) shape got in
     let has = decoded_positions layout lawful state (parent_box p) (target_box p) (origin_long p.parent_shape.now) p.region.now.same_length
-    (lies_at_origin (target_box p) p.parent_shape.now c.subdivide-part.ensures.target.inside) index c.requires.boxed encoded (data_of_target q) shape stands cells in
+    (lies_at_origin (target_box p) p.parent_shape.now p.whole.inside) index c.requires.boxed encoded (data_of_target q) shape stands cells in
     let read = subst (λ (b : Box). HasPositions layout b state (parent_box p) (target_box p) (data_of_target q)) (sym whole) has in
-    back_reads t p q u back t.region.now.same_length region chunk made region_long chunk_long c.requires.same_shape is made_is written.outside
-    layout lawful state c.args.filled index c.requires.boxed refl c.requires.target c.requires.takes read
+    let read =
+    back_reads made t l p q u lends region chunk region_long chunk_long c.requires.target.same_shape is
+    layout lawful state c.args.filled index c.requires.boxed refl c.requires.target.takes read
     (λ covers broken.
     let one : Some broken.encoded ≡ Some encoded = sym broken.stands ∙ stands in
     let same : broken.encoded ≡ encoded = cc in
     let undecoded = subst (λ (v : List ℕ). decoded_cells layout chunk v ≡ None) same broken.undecoded in
     let clash : None ≡ Some cells.whole = sym undecoded ∙ cells.decoded_is in
-    cc)
-
-pub returns-clause-outside : goal.returns-clause-outside
-returns-clause-outside g c =
-    let layout = layout_of c.args.self.now in
-    let lawful = c.args.self.now.layout.lawful in
-    let state = g.S.ReadableStorageTraits.state c.args.self.now.storage in
-    let index = c.args.chunk_indices.now in
-    let region = box_of c.args.region.now in
-    let chunk = box_at layout.grid index in
-    let over = overlap_of region chunk in
-    let t = c.args.target.now in
-    let p = c.subdivide-part.result.target in
-    let q = c.decode_into-done.new.target in
-    let u = c.rejoin.new.self in
-    let written = c.decode_into-done.ensures in
-    let back : IsTakenBack t p q u = record {
-      parent = c.subdivide-part.ensures.same_parent;
-      lent_masks = c.subdivide-part.ensures.masks;
-      lent_bytes = c.subdivide-part.ensures.bytes;
-      written = written.same_box;
-      joined = same_twice t c.subdivide-part.new.self u c.subdivide-part.ensures.same_box c.rejoin.ensures.same_box;
-      joined_masks = c.rejoin.ensures.masks;
-      joined_bytes = c.rejoin.ensures.bytes;
-    } in
-    let made = box_of c.in-Some-2.own in
-    let is : IsSharedIn (target_box t) region chunk made = rw c.in-Some-2.is at c.in_ok-own.ensures.some in
-    let made_is : target_box p ≡ made = ap box_of c.subdivide-part.ensures.region in
-    let region_long = c.args.region.now.same_length in
-    let chunk_long = box_long layout.grid index in
-    back_stays t p q u back t.region.now.same_length region chunk made region_long chunk_long c.requires.same_shape is made_is written.outside
+    cc) in
+    record { kept = back_kept made t l p q u lends region chunk region_long chunk_long c.requires.target.same_shape is; read = read; refused = tt }

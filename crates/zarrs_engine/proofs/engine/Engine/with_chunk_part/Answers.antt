@@ -1,5 +1,6 @@
 use Rattle.std.proofs.Common.{◌≡◌, ◌∙◌, None, [], ◌∷◌, length, rules, sym, ap, subst}
-use Rattle.zarrs_subset.specs.Regions.{Box, box_of}
+use Rattle.zarrs_subset.specs.Regions.{Box, box_of, seen_from}
+use Rattle.zarrs_engine_calls.specs.ChunkBoxes.{chunk_part}
 use Rattle.zarrs_chunk_grid.proofs.Chunks.{box_dimensions}
 use Rattle.zarrs_data_type.specs.ArrayData.{data_of}
 use Rattle.zarrs_data_type.specs.RegionData.{region_data}
@@ -42,7 +43,11 @@ returns-in_err-found-clause-refused g c =
     let layout = layout_of c.args.self.now in
     let state = g.S.ReadableStorageTraits.state c.args.self.now.storage in
     let region = box_of c.args.region.now in
-    let why : RefusesSomeChunk layout region (c.args.chunk_indices.now ∷ []) state (refusal_of c.in_err-found.field-0.0) = c.in_err-found.ensures.refused region c.requires.part in
+    let shared = c.in-Some.shared in
+    let chunk = box_of c.args.chunk.now in
+    let some : AreShared region chunk (box_of shared.region) (box_of shared.part) = rw c.in-Some.is at c.in_ok-shared.ensures.some in
+    let seen = subst (λ (b : Box). box_of shared.part ≡ chunk_part region b) c.requires.chunk (some.part_is ∙ ap (λ (b : Box). seen_from b chunk.start) some.shared_is) in
+    let why : RefusesSomeChunk layout region (c.args.chunk_indices.now ∷ []) state (refusal_of c.in_err-found.field-0.0) = c.in_err-found.ensures.refused region c.requires.part seen in
     search (rules, why)
 
 pub returns-in_default-found-clause-read : goal.returns-in_default-found-clause-read

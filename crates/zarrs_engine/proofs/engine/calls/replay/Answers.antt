@@ -1,10 +1,11 @@
 use Rattle.std.proofs.Common.{◌≡◌, ◌+◌, ◌&&◌, Bool, List, [], ◌∷◌, ◌++◌, take, drop, sym, ◌∙◌, ap, subst, arith}
-use Rattle.std.proofs.lemmas.List.{take_more}
+use Rattle.std.proofs.lemmas.List.{take_all, take_more}
 use Rattle.zarrs_codec_chain.specs.Options.{encodes_partially, stores_empty_chunks}
 use Rattle.zarrs_engine_calls.specs.Layout.{Layout}
 use Rattle.zarrs_engine_calls.specs.Reach.{MayAskCall, MayAskCalls}
 use Rattle.zarrs_engine_calls.specs.declared.call.Call.{Call}
 use Rattle.zarrs_engine.proofs.Cuts.{drop_first, others_then}
+use Rattle.zarrs_engine_calls.specs.Patches.{PatchRun}
 use Rattle.zarrs_engine_calls.specs.Step.{Run}
 use Rattle.zarrs_engine_calls.proofs.Steps.{run_keeps, run_decodes}
 use Rattle.zarrs_engine_calls.proofs.Patched.{patched_all_one}
@@ -56,26 +57,35 @@ loop-call-preserved g c =
       room = omega arith;
     }
 
-pub returns-clause-canonical : goal.returns-clause-canonical
-returns-clause-canonical g c =
+pub returns-clause-bytes : goal.returns-clause-bytes
+returns-clause-bytes g c =
     let i = c.loop-call.invariant in
     let layout = layout_of c.args.engine.now in
+    let lawful = c.args.engine.now.layout.lawful in
+    let keep = stores_empty_chunks c.args.options.now in
     let old = state_of g.S.ReadableStorageTraits.state c.args.engine.now in
     let new = state_of g.S.ReadableStorageTraits.state c.loop-call.engine in
     let calls = take c.loop-call.call-index c.args.calls.now in
-    λ whole off canon. run_keeps layout c.args.engine.now.layout.lawful calls c.loop-call.replies.items old new
-    (subst (λ (keep : Bool). Run layout keep calls c.loop-call.replies.items old new) off (i.run whole)) canon
+    let replies = c.loop-call.replies.items in
+    λ whole. record {
+      decodes = run_decodes layout lawful keep calls replies old new (i.run whole);
+      canonical = λ off canon. run_keeps layout lawful calls replies old new (subst (λ (keep : Bool). Run layout keep calls replies old new) off (i.run whole)) canon;
+    }
 
-pub returns-clause-decodes : goal.returns-clause-decodes
-returns-clause-decodes g c =
+pub returns-clause-run : goal.returns-clause-run
+returns-clause-run g c =
     let i = c.loop-call.invariant in
+    let layout = layout_of c.args.engine.now in
+    let lawful = c.args.engine.now.layout.lawful in
+    let keep = stores_empty_chunks c.args.options.now in
+    let asked = encodes_partially c.args.options.now in
     let old = state_of g.S.ReadableStorageTraits.state c.args.engine.now in
     let new = state_of g.S.ReadableStorageTraits.state c.loop-call.engine in
-    λ whole. run_decodes (layout_of c.args.engine.now) c.args.engine.now.layout.lawful (stores_empty_chunks c.args.options.now) (take c.loop-call.call-index c.args.calls.now) c.loop-call.replies.items old new (i.run whole)
-
-pub returns-clause-one_function : goal.returns-clause-one_function
-returns-clause-one_function g c =
-    let old = state_of g.S.ReadableStorageTraits.state c.args.engine.now in
-    let new = state_of g.S.ReadableStorageTraits.state c.loop-call.engine in
-    patched_all_one (layout_of c.args.engine.now) c.args.engine.now.layout.lawful (stores_empty_chunks c.args.options.now) (encodes_partially c.args.options.now) c.args.calls.now c.loop-call.call-index
-    c.loop-call.replies.items old new c.loop-call-test.false c.loop-call.invariant.patched
+    let calls = c.args.calls.now in
+    let replies = c.loop-call.replies.items in
+    let all : take c.loop-call.call-index calls ≡ calls = take_all c.loop-call.call-index calls c.loop-call-test.false in
+    record {
+      patched = subst (λ (made : List Call). PatchRun layout keep asked made replies old new) all i.patched;
+      one_function = patched_all_one layout lawful keep asked calls c.loop-call.call-index replies old new c.loop-call-test.false i.patched;
+      run = λ whole. subst (λ (made : List Call). Run layout keep made replies old new) all (i.run whole);
+    }

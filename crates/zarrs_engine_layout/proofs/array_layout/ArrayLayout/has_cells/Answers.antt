@@ -8,7 +8,7 @@ use Rattle.zarrs_engine_layout.proofs.array_layout.ArrayLayout.has_cells.Goals a
 
 pub returns-else-wanted-count : goal.returns-else-wanted-count
 returns-else-wanted-count g c =
-    let type = c.args.self.now.data_type in
+    let type = c.args.self.now.cell_type.data_type in
     let held = data_of c.args.region_data.now in
     let n = position_count (box_of c.args.region.now).shape in (
       λ same. absurd (c.if-wanted-count.false (eqb-true _ _ same)),
@@ -20,7 +20,7 @@ returns-else-wanted-count g c =
 
 pub returns-in-Err : goal.returns-in-Err
 returns-in-Err g c =
-    let type = c.args.self.now.data_type in
+    let type = c.args.self.now.cell_type.data_type in
     let held = data_of c.args.region_data.now in
     let n = position_count (box_of c.args.region.now).shape in (
       λ none. absurd (false≢true none),
