@@ -6,8 +6,9 @@
 //!
 //! The ghost member `meaning` of `ChainTraits` is a `ChainMeaning` of `specs/Chain.antt`, and its law is
 //! `IsLawfulChain`. `encoded` and `decoded` are the bytes of cells and the cells of bytes. `places` says which bytes
-//! a read of a part needs, and `specs/Places.antt` defines it. `specs/Parts.antt` says what such a read returns
-//! (`DecodesPart`), and what it leaves in a target (`DecodesInto`, `DecodesPartAt`).
+//! a read of a part needs, and `specs/Places.antt` defines it; `reads_too_large` says whether it decodes too much.
+//! `specs/Parts.antt` says what such a read returns (`DecodesPart`), and what it leaves in a target (`DecodesInto`,
+//! `DecodesPartAt`). `specs/Chunks.antt` has the words of a chain and a chunk, as `decoded_of` and `RefusesToDecode`.
 #![tactic(auto)]
 
 mod bytes;

@@ -1,6 +1,6 @@
 -- The cells of a chunk after those past a shape became fill, dimension by dimension.
-use Rattle.std.proofs.Common.{◌≡◌, ◌≢◌, ◌==◌, ◌<◌, ◌≤◌, ◌+◌, ◌-◌, ◌⊎◌, ◌∙◌, ℕ, zero, suc, Bool, true, false, cond, List, length, replicate, Option, Some, None, ap, inl, inr, refl, slice_index, subst, sym, arith}
-use Rattle.std.specs.Prelude.{nat_lt, slice_set}
+use Rattle.std.proofs.Common.{◌≡◌, ◌≢◌, ◌==◌, ◌<◌, ◌≤◌, ◌+◌, ◌-◌, ◌⊎◌, ◌∙◌, ℕ, zero, suc, Bool, true, false, cond, List, length, replicate, Some, None, ap, inl, inr, refl, slice_index, subst, sym, arith}
+use Rattle.std.specs.Prelude.{nat_lt}
 use Rattle.std.proofs.lemmas.Bool.{cases_Bool, eq-eqb, eqb-true, false≢true, ltb-true, ltb-false}
 use Rattle.std.proofs.Math.Nat.{mul-le-mul_right}
 use Rattle.std.proofs.lemmas.List.{get_or-set_other, get_or-set_same, length-replicate, length-set}
@@ -22,11 +22,11 @@ use Rattle.zarrs_engine_calls.specs.Cuts.{is_below}
 use Rattle.zarrs_engine_calls.specs.Layout.{Layout}
 use Rattle.zarrs_engine_calls.specs.Refusals as refusal
 use Rattle.zarrs_engine_calls.specs.Refusals.{Refusal, RefusesBy, fill_refusal, is_too_large, refuse_if}
-use Rattle.zarrs_engine_calls.specs.StateRefusals.{IsLargeFilling, RefusesKeptCut}
+use Rattle.zarrs_engine_calls.specs.StateRefusals.{RefusesKeptCut}
 use Rattle.zarrs_engine_calls.proofs.Below.{along_below, below_along}
 use Rattle.zarrs_engine_calls.proofs.Contents.{fill_at, replicated}
 use Rattle.zarrs_engine_calls.proofs.RefusalLemmas.{memory_or_said, not_large, second_refusal, small_size}
-use Rattle.zarrs_engine_layout.specs.Beyond.{beyond_box, IsBeyond}
+use Rattle.zarrs_engine_layout.specs.Beyond.{beyond_box}
 use Rattle.zarrs_engine_layout.specs.Steps.{filled_refusal}
 use Rattle.zarrs_engine.specs.Resizes.{HasCutCells, HasFilled, RefusesFilling}
 

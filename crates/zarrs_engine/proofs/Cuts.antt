@@ -1,57 +1,49 @@
 -- Changes of the array's shape, one chunk after another.
-use Rattle.std.proofs.Common.{◌≡◌, ◌≢◌, ◌==◌, ◌<◌, ◌≤◌, ◌+◌, ◌-◌, min, zero, suc, ℕ, Bool, true, false, not, cond, List, [], ◌∷◌}
-use Rattle.std.proofs.Common.{◌++◌, length, take, drop, get_or, slice_index, replicate, is_some, Option, Some, None, slice_get, Contains}
+use Rattle.std.proofs.Common.{◌≡◌, ◌≢◌, ◌==◌, ◌<◌, ◌≤◌, ◌+◌, ◌-◌, zero, suc, ℕ, Bool, true, false, not, cond, List, [], ◌∷◌}
+use Rattle.std.proofs.Common.{◌++◌, length, take, drop, get_or, replicate, is_some, Option, Some, None, slice_get, Contains}
 use Rattle.std.proofs.Common.{◌⊎◌, refl, sym, ◌∙◌, ap, subst, inl, inr, arith, Result}
 use Rattle.std.specs.List.{filter}
 use Rattle.std.specs.Result.{IsErrAnd, IfErr}
 use Rattle.std.proofs.lemmas.Result.{err_from_is_err_and}
 use Rattle.std.specs.Option.{option_or}
 use Rattle.std.proofs.lemmas.Bool.{cases_Bool, eq-eqb, eqb-true, false≢true}
-use Rattle.std.proofs.lemmas.List.{get_or-replicate, append-nil, length-append, length-replicate, take_all, take-append-drop}
+use Rattle.std.proofs.lemmas.List.{append-nil, length-append, length-replicate, take_all, take-append-drop}
 use Rattle.std.proofs.lemmas.List.Elements.{All-contains, All-contains_itself, All-filter, Contains-append_left, Contains-push, filter-append, filter_more}
 use Rattle.std.proofs.lemmas.Option.{slice_get-get_or, slice_get_within, get_or_from_slice_get}
 use Rattle.std.proofs.Math.Seq.{take-append_seam, drop-cons}
 use Rattle.zarrs_engine_calls.specs.declared.call.Call.{Call}
-use Rattle.zarrs_subset.specs.Boxes.{position_count, zip_with, ends}
-use Rattle.zarrs_subset.specs.Regions.{Box, Holds, IsLong, bound_to, box_at_origin, cell_in, in_box, place_in, positions, LiesInBox}
-use Rattle.zarrs_subset.proofs.Bytes.{along_holds, holds_along, place_in_below}
-use Rattle.zarrs_subset.proofs.Overlaps.{length-bound, length-zip_with}
-use Rattle.zarrs_subset.proofs.Parts.{zip_with-at}
+use Rattle.zarrs_subset.specs.Boxes.{position_count}
+use Rattle.zarrs_subset.specs.Regions.{Box, Holds, IsLong, box_at_origin, place_in, positions}
+use Rattle.zarrs_subset.proofs.Bytes.{place_in_below}
 use Rattle.zarrs_subset.proofs.Positions.{length-positions, positions_in, positions_once}
 use Rattle.zarrs_chunk_grid.specs.Grids.{box_at, has_box}
-use Rattle.zarrs_chunk_grid.proofs.Chunks.{box_dimensions, box_long}
+use Rattle.zarrs_chunk_grid.proofs.Chunks.{box_long}
 use Rattle.zarrs_storage.specs.Store.{StoreState}
 use Rattle.zarrs_data_type.specs.Cell.{Cell}
 use Rattle.zarrs_data_type.specs.ArrayData.{ArrayData}
 use Rattle.zarrs_data_type.specs.Cells.{HasCells, cells}
 use Rattle.zarrs_data_type_bytes.proofs.Cells.{HasCells-some, cells-values}
-use Rattle.zarrs_subset.specs.Refusals.{RefusesLength}
-use Rattle.zarrs_subset.specs.declared.error.ArraySubsetError.{ArraySubsetError}
-use Rattle.zarrs_subset.specs.declared.error.ArraySubsetError.TheVariants as subset
-use Rattle.zarrs_engine_calls.specs.Errors.{error_of_subset}
-use Rattle.zarrs_data_type.specs.Parts.{TakesCells, ExtractsCells}
 use Rattle.zarrs_keys.specs.Keys.{IsIndexList}
 use Rattle.zarrs_engine_calls.specs.Layout.{ArrayState, Layout, IsLawful, layout_at}
-use Rattle.zarrs_engine_calls.specs.Content.{value_at, content}
+use Rattle.zarrs_engine_calls.specs.Content.{value_at}
 use Rattle.zarrs_engine_calls.specs.Refusals as refusal
 use Rattle.zarrs_engine_calls.specs.Refusals.{Refusal, RefusesBy, box_refusal, data_refusal, encode_refusal, encoded_cells, fill_refusal}
 use Rattle.zarrs_engine_calls.specs.Refusals.{is_left_out, is_too_large, length_refusal, refusal_of, refuse_if}
 use Rattle.zarrs_engine_calls.specs.Step.{RefusesResize}
-use Rattle.zarrs_engine_calls.specs.ArgumentRefusals.{resize_refusal, size_refusal}
-use Rattle.zarrs_engine_calls.specs.Changes.{IsPut, IsValueOf, Makes, RetrievesChunk}
+use Rattle.zarrs_engine_calls.specs.ArgumentRefusals.{resize_refusal}
+use Rattle.zarrs_engine_calls.specs.Changes.{IsPut, IsValueOf, Makes}
 use Rattle.zarrs_engine_calls.specs.Cuts.{Cuts, cut_chunks, is_below, is_cut, keeps_some}
 use Rattle.zarrs_engine_calls.specs.Fronts.{CutsAll}
 use Rattle.zarrs_engine_calls.specs.Reach.{MayAsk, MayAskChunk, MayAskKept}
 use Rattle.zarrs_engine.proofs.PartWrites.{large_region}
 use Rattle.zarrs_engine_calls.specs.StateRefusals.{AreCut, NeedsLargeFill, RefusesChunkRead, RefusesCut, RefusesErasure, RefusesKeptCut}
 use Rattle.zarrs_engine_calls.specs.ChunkBoxes.{last_of}
-use Rattle.zarrs_engine_calls.proofs.Below.{below_along}
 use Rattle.zarrs_engine_calls.proofs.CutLaws.{and_left}
 use Rattle.zarrs_engine_calls.proofs.Contents.{absent_fill, index_list, one_key, only_member}
 use Rattle.zarrs_engine_calls.proofs.CutLoops.{cut_gone, cut_kept, cuts_all, cuts_none, cuts_push, cuts_same}
-use Rattle.zarrs_engine_calls.proofs.RefusalLemmas.{fit_chunk, large_chunk, makes_none, memory_or_said, second_refusal}
+use Rattle.zarrs_engine_calls.proofs.RefusalLemmas.{fit_chunk, large_chunk, makes_none, memory_or_said}
 use Rattle.zarrs_engine_layout.specs.CutWalks.{walk_box, walk_number, walk_whole}
-use Rattle.zarrs_engine_layout.specs.Steps.{HasValue, RefusesPut, filled_refusal}
+use Rattle.zarrs_engine_layout.specs.Steps.{HasValue, RefusesPut}
 use Rattle.zarrs_engine_layout.specs.WholeChunks.{PassesBelow}
 use Rattle.zarrs_engine_layout.specs.declared.cut_walk.CutWalk.{CutWalk}
 use Rattle.zarrs_engine_layout.proofs.Chunks.{unread_why}

@@ -1,7 +1,7 @@
 -- Targets whose box was read.
 use Rattle.std.proofs.Common.{◌≡◌, ℕ, ◌<◌, Bool, true, List, [], ◌∷◌, None, Some, Ok, Err, OnOk, Result, refl, sym, ap, ◌∙◌, subst}
 use Rattle.zarrs_subset.specs.Boxes.{position_count, offset_by, offset_from}
-use Rattle.zarrs_subset.specs.Regions.{Box, Holds, IsLong, box_at_origin, box_of, place_in}
+use Rattle.zarrs_subset.specs.Regions.{Box, Holds, box_at_origin, box_of, place_in}
 use Rattle.zarrs_subset.proofs.Bytes.{place_in_below}
 use Rattle.zarrs_storage.specs.Store.{StoreState}
 use Rattle.zarrs_data_type.specs.Kind.{Kind}

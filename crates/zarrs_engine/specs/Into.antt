@@ -59,6 +59,7 @@ module _ {S G K C : Type 0} {g : GridMeaning G} {k : KeyMeaning K} {c : ChainMea
     pub kept : KeepsTarget old new
     pub cells : OnOk result (RetrievesInto (layout_of engine) (state_of state engine).shape region (state_of state engine).store old new)
     pub content : OnOk result (HasContent (layout_of engine) region (state_of state engine).store old new)
-    pub refused : IfErr result (λ e. RefusesRetrieveInto (layout_of engine) (state_of state engine).shape region old (refusal_of e) (state_of state engine).store)
+    pub refused : IfErr result (λ e.
+        RefusesRetrieveInto (layout_of engine) (state_of state engine).shape region old (refusal_of e) (state_of state engine).store)
     pub kept_bytes : OnErr result (IsSome (target_refusal (layout_of engine) (state_of state engine).shape region old) → new.bytes.now ≡ old.bytes.now)
     pub kept_masks : OnErr result (IsSome (target_refusal (layout_of engine) (state_of state engine).shape region old) → new.masks.now ≡ old.masks.now)

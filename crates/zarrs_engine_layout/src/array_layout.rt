@@ -247,9 +247,7 @@ impl<G: ChunkGridTraits, K: ChunkKeyEncodingTraits, C: ChainTraits> ArrayLayout<
             cell_type: &self.cell_type,
             shape: chunk.region.shape(),
         };
-        let encoded = self
-            .chain
-            .encode_owned(alloc, chunk_data, &chunk, options)?;
+        let encoded = self.chain.encode_owned(alloc, chunk_data, &chunk, options)?;
         Ok(Some(encoded))
     }
 

@@ -29,8 +29,8 @@ impl<G: ChunkGridTraits, K: ChunkKeyEncodingTraits, C: ChainTraits> ArrayLayout<
     ///
     /// # Errors
     /// One of these: E4 if the bytes do not decode, though a part of them may; E7 if the source refuses; E8 if what the
-    /// chain decodes whole for the part, the chunk or a subchunk that it meets, has more bytes than a `usize` counts, or so has its fill where the
-    /// bytes leave out cells. E9 may come at any time.
+    /// chain decodes whole for the part, the chunk or a subchunk that the part meets, has more bytes than a `usize`
+    /// counts, or so has its fill where its bytes leave out cells. E9 may come at any time.
     pub fn decode_part<B: ByteSource>(
         &self,
         alloc: Global,

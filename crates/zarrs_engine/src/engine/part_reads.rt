@@ -46,8 +46,8 @@ impl<
     /// number of dimensions, or that passes the chunk. Then for the whole chunk the errors of `retrieve_chunk`; for
     /// another part E8 for cells of more bytes than a `usize` counts, and then one of these: E7 if the store refuses the
     /// key, E4 if its bytes do not decode, E8 if what the chain decodes whole of it for the part (the chunk, or a subchunk
-    /// that the part meets) has more bytes than that, or so has its fill where the bytes leave out cells, or if the chunk is absent and
-    /// the part's fill values have more. E9 may come at any time.
+    /// that the part meets) has more bytes than that, or so has its fill where its bytes leave out cells, or if the chunk
+    /// is absent and the part's fill values have more. E9 may come at any time.
     pub fn retrieve_chunk_subset(
         &self,
         alloc: Global,

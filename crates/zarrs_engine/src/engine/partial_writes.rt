@@ -231,7 +231,12 @@ impl<
         ensures refused { IfErr result (RefusesOffset (box_of inner.now).start origin.now) }
     {
         let seen = inner.relative_to(alloc, origin)?;
-        let data = region_data.extract_array_subset(alloc, &self.layout.cell_type.data_type, region, inner)?;
+        let data = region_data.extract_array_subset(
+            alloc,
+            &self.layout.cell_type.data_type,
+            region,
+            inner,
+        )?;
         Ok((seen, data))
     }
 

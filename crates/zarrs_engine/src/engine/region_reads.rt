@@ -106,8 +106,8 @@ impl<
             (data_of made))) }
         ensures refused { IfErr result (λ e. (region : Box)
             → IsPart (layout_of self.now) region chunk_indices.now
-            → box_of part.now ≡ chunk_part region
-            (box_at (layout_of self.now).grid chunk_indices.now) → RefusesSomeChunk (layout_of self.now) region (chunk_indices.now ∷ [])
+            → box_of part.now ≡ chunk_part region (box_at (layout_of self.now).grid chunk_indices.now)
+            → RefusesSomeChunk (layout_of self.now) region (chunk_indices.now ∷ [])
             (store_of S.state self.now) (refusal_of e)) }
     {
         let key = self.layout.chunk_key(alloc, chunk_indices)?;
@@ -176,7 +176,13 @@ impl<
             return Ok(held);
         };
         let part = self.layout.decode(alloc, chunk_indices, &encoded)?;
-        let made = held.with_part(alloc, &self.layout.cell_type.data_type, region, &part, chunk)?;
+        let made = held.with_part(
+            alloc,
+            &self.layout.cell_type.data_type,
+            region,
+            &part,
+            chunk,
+        )?;
         Ok(made)
     }
 
@@ -212,7 +218,13 @@ impl<
         let Some(part) = found else {
             return Ok(held);
         };
-        let made = held.with_part(alloc, &self.layout.cell_type.data_type, region, &part, &shared.region)?;
+        let made = held.with_part(
+            alloc,
+            &self.layout.cell_type.data_type,
+            region,
+            &part,
+            &shared.region,
+        )?;
         Ok(made)
     }
 
@@ -353,9 +365,9 @@ impl<
     /// # Errors
     /// In this order: E1 for another number of dimensions, or a position that no chunk covers; E8 for cells of more
     /// bytes than a `usize` counts. Then one of these: E7 if the store refuses the key of a chunk that the region meets,
-    /// E4 if its bytes do not decode, E8 if what is decoded whole of it (the chunk, or a subchunk that the region meets) has more bytes
-    /// than that, or so has its fill where the bytes leave out cells, or if all of the region lies in an absent chunk and
-    /// that many fill values have more. E9 may come at any time.
+    /// E4 if its bytes do not decode, E8 if what is decoded whole of it (the chunk, or a subchunk that the region meets)
+    /// has more bytes than that, or so has its fill where its bytes leave out cells, or if all of the region lies in an
+    /// absent chunk and that many fill values have more. E9 may come at any time.
     pub fn retrieve_array_subset(
         &self,
         alloc: Global,

@@ -1,4 +1,4 @@
-use Rattle.std.proofs.Common.{◌≡◌, ◌∙◌, ◌+◌, ◌<◌, false, length, rules, ap, slice_index, subst, sym, arith}
+use Rattle.std.proofs.Common.{◌≡◌, ◌∙◌, ◌<◌, false, length, rules, ap, slice_index, subst, sym, arith}
 use Rattle.zarrs_subset.specs.Regions.{Box, box_of}
 use Rattle.zarrs_chunk_grid.specs.Grids.{box_at}
 use Rattle.zarrs_chunk_grid.proofs.Chunks.{box_dimensions, box_long}
@@ -6,7 +6,7 @@ use Rattle.zarrs_data_type.specs.ArrayData.{data_of}
 use Rattle.zarrs_engine_calls.specs.Refusals.{is_too_large, refusal_of}
 use Rattle.zarrs_engine_calls.proofs.Below.{below_along}
 use Rattle.zarrs_engine.specs.Engine.{layout_of}
-use Rattle.zarrs_engine.specs.Resizes.{HasCutCells, HasFilled, RefusesFilling}
+use Rattle.zarrs_engine.specs.Resizes.{HasFilled, RefusesFilling}
 use Rattle.zarrs_engine.proofs.Beyond.{all_filled, filling_cut, first_filled}
 use Rattle.zarrs_engine.proofs.Cuts.{read_fails}
 use Rattle.zarrs_engine.proofs.engine.Engine.cut_cells.Goals as goal

@@ -1,10 +1,8 @@
 use Rattle.std.proofs.Common.{◌≡◌, Option, None, OnErr, OnOk, Result, sym, subst, inr, rules}
 use Rattle.std.specs.Prelude.{IsSome}
 use Rattle.std.specs.Option.{option_or}
-use Rattle.zarrs_subset.specs.Boxes.{position_count}
 use Rattle.zarrs_subset.specs.Regions.{Box, box_of}
 use Rattle.zarrs_data_type_region.proofs.Kept.{keeps_itself}
-use Rattle.zarrs_data_type.specs.States.{parent_box, target_box}
 use Rattle.zarrs_engine_calls.specs.ArgumentRefusals.{part_refusal}
 use Rattle.zarrs_engine_calls.specs.declared.error.ArrayError.{ArrayError}
 use Rattle.zarrs_engine_calls.specs.Refusals.{Refusal, refusal_of}
