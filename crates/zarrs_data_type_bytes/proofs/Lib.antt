@@ -15,3 +15,4 @@ mod Numbers
 mod Rows
 mod BoxRows
 mod AsciiTexts
+mod Gathering

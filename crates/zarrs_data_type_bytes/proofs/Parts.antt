@@ -1,32 +1,31 @@
 -- Parts of data over boxes.
-use Rattle.std.proofs.Common.{◌≡◌, ℕ, zero, suc, ◌+◌, ◌-◌, ◌*◌, ◌<◌, ◌≤◌, Bool, true, false, cond, eqb, List, [], ◌∷◌}
-use Rattle.std.proofs.Common.{◌++◌, length, map, take, drop, get_or, slice_get, Option, None, Some, refl, sym, ap, ◌∙◌}
+use Rattle.std.proofs.Common.{◌≡◌, ℕ, ◌+◌, ◌*◌, ◌<◌, ◌≤◌, Bool, true, false, cond, eqb, List, []}
+use Rattle.std.proofs.Common.{◌++◌, length, map, take, drop, get_or, slice_get, Option, Some, refl, sym, ap, ◌∙◌}
 use Rattle.std.proofs.Common.{subst, arith, append-nil}
-use Rattle.std.specs.Prelude.{All, slice_index, slice_index_or, slice_range}
+use Rattle.std.specs.Prelude.{All, slice_index, slice_index_or}
 use Rattle.std.specs.List.{range_with_len}
-use Rattle.std.proofs.Math.Nat.{mul-le-mul_left, mul-le-mul_right}
+use Rattle.std.proofs.Math.Nat.{mul-le-mul_left}
 use Rattle.std.proofs.lemmas.Bool.{eq-eqb, and_from}
-use Rattle.std.proofs.lemmas.List.{length-map, get_or-map, take_all, drop_all, get_or_default, take_more}
+use Rattle.std.proofs.lemmas.List.{length-map, get_or-map, take_all, drop_all, get_or_default}
 use Rattle.std.proofs.lemmas.List.FromFn.{length-map-range_with_len, get_or-map-range_with_len}
 use Rattle.std.proofs.lemmas.Option.{slice_get-get_or, get_or_from_slice_get, slice_get_within}
 use Rattle.zarrs_subset.specs.Boxes.{position_count, place, unravel, offset_by}
 use Rattle.zarrs_subset.specs.Pieces.{pieces, piece_at}
-use Rattle.zarrs_subset.specs.Regions.{Box, IsLong, Holds, InBox, in_box, place_in, cell_in, positions, cells_over, TakesPart, LiesInBox}
+use Rattle.zarrs_subset.specs.Regions.{Box, IsLong, Holds, in_box, place_in, cell_in, positions, cells_over, TakesPart, LiesInBox}
 use Rattle.zarrs_subset.proofs.Bytes.{place_in_below}
-use Rattle.zarrs_subset.proofs.CellLists.{cells_are}
 use Rattle.zarrs_subset.proofs.Kernel.{get_or-part}
 use Rattle.zarrs_subset.proofs.Positions.{unravel_in, place-unravel, length-positions, in_box-offset_by, offset_from-by, positions_all}
 use Rattle.zarrs_data_type_kinds.specs.declared.data_type.DataType.{DataType}
-use Rattle.zarrs_data_type_kinds.specs.Kind.{Kind, kind, element_size, is_variable, inner_of}
-use Rattle.zarrs_data_type_kinds.specs.Cell.{Cell, bytes, none, some, is_value}
+use Rattle.zarrs_data_type_kinds.specs.Kind.{Kind, kind, element_size, is_variable}
+use Rattle.zarrs_data_type_kinds.specs.Cell.{Cell, bytes, none, is_value}
 use Rattle.zarrs_data_type_kinds.proofs.Sizes.{element_size-positive}
-use Rattle.zarrs_data_type_bytes.specs.ArrayData.{ArrayData, fixed, variable, optional}
+use Rattle.zarrs_data_type_bytes.specs.ArrayData.{ArrayData, fixed, variable}
 use Rattle.zarrs_data_type_bytes.specs.Cells.{fits, cell_at, cells, HasCells}
 use Rattle.zarrs_data_type_bytes.specs.Parts.{TakesCells, ExtractsCells, TakesAt, ExtractsAt, TakesEach, ExtractsEach}
 use Rattle.zarrs_data_type_bytes.specs.StringParts.{string_at, string_taken}
 use Rattle.zarrs_subset.proofs.Inside.{holds_inside}
 use Rattle.zarrs_data_type_bytes.proofs.Cells.{AllValues, cells-from, cells-parts, HasCells-cells, HasCells-parts, fitting-fixed}
-use Rattle.zarrs_data_type_bytes.proofs.Filled.{cell_at-fixed, fits-fixed, fits-variable, fits-optional}
+use Rattle.zarrs_data_type_bytes.proofs.Filled.{cell_at-fixed, fits-variable}
 use Rattle.zarrs_data_type_bytes.proofs.Pieces.{length-pieces}
 
 -- ---- boxes

@@ -1,5 +1,5 @@
 -- Parts of byte strings: those of a box, of byte strings that are an array over another box.
-use Rattle.std.specs.Prelude.{◌≡◌, ℕ, ◌+◌, ◌<◌, ◌≤◌, List, [], length, slice_index, slice_index_or, if◌then◌else◌}
+use Rattle.std.specs.Prelude.{ℕ, ◌+◌, List, [], slice_index_or, if◌then◌else◌}
 use Rattle.zarrs_subset.specs.Boxes.{offset_from, place}
 use Rattle.zarrs_subset.specs.Regions.{Box, in_box, place_in}
 

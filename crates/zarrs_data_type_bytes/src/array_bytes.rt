@@ -18,6 +18,7 @@ use std::borrow::CowSlice;
 mod extract;
 mod fill;
 mod fixed;
+mod gather;
 mod part;
 mod present;
 mod select;

@@ -53,7 +53,7 @@ pub(crate) fn ends_of(
     sums(alloc, start, shape)
 }
 
-/// The extents from `start` up to `end`, which lies nowhere below it.
+/// How far each number of `end` is above that of `start`, which is nowhere above it.
 pub(crate) fn extents(end: ArrayIndices, start: &[u64]) -> ArrayShape
     requires same_length { length end.items ≡ length start.now }
     requires ordered { (k : ℕ) → k < length start.now → slice_index start.now k ≤ slice_index
@@ -65,6 +65,20 @@ pub(crate) fn extents(end: ArrayIndices, start: &[u64]) -> ArrayShape
         shape[k] -= start[k];
     }
     shape
+}
+
+/// The sums of numbers and of others, which fit `u64`.
+pub(crate) fn shifted(numbers: ArrayIndices, others: &[u64]) -> ArrayIndices
+    requires same_length { length numbers.items ≡ length others.now }
+    requires fits { (k : ℕ) → k < length others.now → slice_index numbers.items k + slice_index
+        others.now k < 2 ^ 64 }
+    ensures { result.items ≡ zip_with (λ s t. s + t) numbers.items others.now }
+{
+    let mut sums = numbers;
+    for k in 0..others.len() {
+        sums[k] += others[k];
+    }
+    sums
 }
 
 /// The numbers, one for each dimension of the shape, except those of dimensions of extent 1.

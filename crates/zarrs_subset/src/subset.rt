@@ -9,7 +9,7 @@ ghost use Rattle.zarrs_subset.specs.Refusals.{IsMismatch, RefusesStartShape, Ref
 ghost use Rattle.zarrs_subset.specs.Refusals.{RefusesLength, RefusesOffset, RefusesShift};
 
 use crate::error::{ArraySubsetError, IncompatibleDimensionalityError, SizeOverflow};
-use crate::lists::{distances, earlier, ends_of, extents, has_zero, sums};
+use crate::lists::{distances, earlier, ends_of, extents, has_zero, shifted, sums};
 use crate::ravel::{element_count, unravel_index};
 use crate::traits::ArraySubsetTraits;
 use crate::{ArrayIndices, ArrayShape};
@@ -277,7 +277,8 @@ impl ArraySubset {
                 return Err(ArraySubsetError::StartBelowOffset);
             }
         }
-        let start = distances(alloc, &self.start, offset)?;
+        let copy = Vec::from_slice(alloc, &self.start)?;
+        let start = extents(copy, offset);
         let shape = Vec::from_slice(alloc, &self.shape)?;
         Ok(ArraySubset { start, shape })
     }
@@ -299,7 +300,8 @@ impl ArraySubset {
                 return Err(ArraySubsetError::EndOverflow);
             }
         }
-        let start = sums(alloc, &self.start, offset)?;
+        let copy = Vec::from_slice(alloc, &self.start)?;
+        let start = shifted(copy, offset);
         let shape = Vec::from_slice(alloc, &self.shape)?;
         Ok(ArraySubset { start, shape })
     }

@@ -3,27 +3,14 @@ ghost use Rattle.std.specs.Prelude.{◌≡◌, ◌<◌, ◌*◌, ◌^◌, All, I
 ghost use Rattle.std.specs.Prelude.{Some, length, count_by};
 ghost use Rattle.zarrs_data_type_bytes.specs.ArrayData.{data_of, optional_data};
 ghost use Rattle.zarrs_data_type_bytes.specs.Cells.{cells, HasCells};
-ghost use Rattle.zarrs_data_type_bytes.specs.Present.{flag_set, places_set, present_cells, spread_cells};
+ghost use Rattle.zarrs_data_type_bytes.specs.Present.{flag_set, present_cells, spread_cells};
 ghost use Rattle.zarrs_data_type_kinds.specs.Kind.{kind, cell_size, optional};
 
+use super::gather::{gather_fixed, places_set};
 use super::{ArrayBytes, ArrayBytesOptional};
 use std::alloc::{AllocError, Global};
 use std::borrow::CowSlice;
 use zarrs_data_type_kinds::DataType;
-
-/// The places of the flags that are set.
-fn places_set(alloc: Global, mask: &[u8]) -> Result<Vec<usize>, AllocError>
-    ensures places { IfOk result (λ places. places.items ≡ places_set mask.now (length mask.now)) }
-    ensures within { IfOk result (λ places. All (λ p. p < length mask.now) places.items) }
-{
-    let mut places = Vec::new(alloc);
-    for index in 0..mask.len() {
-        if mask[index] != 0 {
-            places.push(index)?;
-        }
-    }
-    Ok(places)
-}
 
 impl<'a> ArrayBytes<'a> {
     /// Data of an optional type: a cell whose flag is 0 is none, the others are some of the present cells in their
@@ -65,6 +52,13 @@ impl<'a> ArrayBytesOptional<'a> {
             (optional_data self.now))
             (λ cs. cells (kind inner.now) (data_of made) ≡ Some (present_cells cs))) }
     {
+        if let ArrayBytes::Fixed(cells) = &*self.data {
+            let Some(size) = inner.element_size() else {
+                unreachable!()
+            };
+            let made = gather_fixed(alloc, cells.as_slice(), size, self.mask.as_slice())?;
+            return Ok(ArrayBytes::Fixed(CowSlice::Owned(made)));
+        }
         let places = places_set(alloc, self.mask.as_slice())?;
         self.data.select(alloc, inner, places.as_slice())
     }

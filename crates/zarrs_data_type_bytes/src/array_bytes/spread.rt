@@ -31,7 +31,7 @@ fn ranks_set(alloc: Global, mask: &[u8]) -> Result<Vec<usize>, AllocError>
 
 /// Appends a cell to bytes that have room for it: byte by byte, since the compiler makes one write of them.
 #[inline(always)]
-fn push_cell<const N: usize>(bytes: &mut Vec<u8>, cell: [u8; N])
+pub(super) fn push_cell<const N: usize>(bytes: &mut Vec<u8>, cell: [u8; N])
     requires { vec_len bytes.old + N ≤ vec_capacity bytes.old }
     ensures items { bytes.new.items ≡ bytes.old.items ++ cell.entry }
     ensures len { vec_len bytes.new ≡ vec_len bytes.old + N }

@@ -1,4 +1,3 @@
-use Rattle.std.proofs.Common.{◌≡◌}
 use Rattle.std.proofs.lemmas.Result.{IfOk-weaker}
 use Rattle.zarrs_data_type_kinds.specs.Kind.{kind}
 use Rattle.zarrs_subset.specs.Boxes.{position_count}

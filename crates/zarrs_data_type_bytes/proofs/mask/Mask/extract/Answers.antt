@@ -1,4 +1,4 @@
-use Rattle.std.proofs.Common.{◌≡◌, ◌*◌, List, ℕ, subst, length, arith}
+use Rattle.std.proofs.Common.{List, ℕ, subst, arith}
 use Rattle.zarrs_subset.specs.Pieces.{piece_at}
 use Rattle.zarrs_subset.specs.Regions.{box_of}
 use Rattle.zarrs_data_type_bytes.specs.Parts.{ExtractsAt}

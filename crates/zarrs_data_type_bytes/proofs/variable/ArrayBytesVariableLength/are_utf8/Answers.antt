@@ -1,7 +1,5 @@
 use Rattle.std.proofs.Common.{◌<◌, [], length, ap, sym, ◌∙◌, arith}
-use Rattle.std.specs.List.{list_all}
 use Rattle.std.specs.Str.{is_utf8}
-use Rattle.std.proofs.lemmas.List.{take_all}
 use Rattle.std.proofs.lemmas.Bool.{and_from}
 use Rattle.std.proofs.lemmas.List.Folds.{list_all_at, list_all_more}
 use Rattle.zarrs_data_type_bytes.proofs.AsciiTexts.{ascii_texts, ascii_test}

@@ -2,8 +2,8 @@ use Rattle.std.proofs.Common.{ap, sym, ◌∙◌, ◌<◌, ◌++◌, ◌∷◌, 
 use Rattle.std.specs.Prelude.{All}
 use Rattle.std.proofs.Common.{length}
 use Rattle.zarrs_data_type_bytes.proofs.Presence.{places-set, places-unset, All-pushed}
-use Rattle.zarrs_data_type_bytes.proofs.array_bytes.present.places_set.Goals as goal
-use Rattle.zarrs_data_type_bytes.proofs.array_bytes.present.places_set.Goals.{then-mask-index-ne0+in_ok-push, else-mask-index-ne0}
+use Rattle.zarrs_data_type_bytes.proofs.array_bytes.gather.places_set.Goals as goal
+use Rattle.zarrs_data_type_bytes.proofs.array_bytes.gather.places_set.Goals.{then-mask-index-ne0+in_ok-push, else-mask-index-ne0}
 
 pub loop-index-preserved : goal.loop-index-preserved
 loop-index-preserved c =

@@ -1,7 +1,7 @@
 use Rattle.std.proofs.Common.{◌≡◌, ◌<◌, length}
 use Rattle.std.specs.Prelude.{All}
 use Rattle.zarrs_data_type_bytes.specs.Present.{places_set}
-use Rattle.zarrs_data_type_bytes.proofs.array_bytes.present.places_set.Given as goal
+use Rattle.zarrs_data_type_bytes.proofs.array_bytes.gather.places_set.Given as goal
 
 abbrev pub invariant-loop-index : goal.invariant-loop-index
 invariant-loop-index l = record {
