@@ -1,4 +1,5 @@
 pub mod Meanings
+pub mod Making
 pub mod Sets
 pub mod Opening
 pub mod Shown

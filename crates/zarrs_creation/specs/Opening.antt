@@ -1,5 +1,5 @@
 -- The metadata that a store holds for an array.
-use Rattle.std.specs.Prelude.{◌≡◌, ◌⊎◌, ℕ, true, List, [], ◌∷◌, Option, Some, None, Result, Ok, Err, if◌then◌else◌}
+use Rattle.std.specs.Prelude.{◌≡◌, ◌⊎◌, ℕ, true, List, [], ◌∷◌, Option, Some, None, Result, Ok, Err, IfOk, IfErr, if◌then◌else◌}
 use Rattle.zarrs_storage.specs.Store.{StoreState, MayReadWhole}
 use Rattle.zarrs_keys.specs.Keys.{v3_name, v2_array_name, v2_attributes_name, IsMetadataName}
 use Rattle.zarrs_keys.specs.Paths.{path_key}
@@ -8,7 +8,8 @@ use Rattle.zarrs_metadata_v3.specs.Fields.{FieldData}
 use Rattle.zarrs_metadata_v2.specs.Document.{DocumentV2Data, document_v2_said, attributes_said}
 use Rattle.zarrs_metadata.specs.Versions.{MetadataData, v3, v2}
 use Rattle.zarrs_engine_calls.specs.Content.{value_at}
-use Rattle.zarrs_options.specs.Refusals.{CreateRefusal, storage, unread, missing_metadata, additional_field, said_or}
+use Rattle.zarrs_options.specs.Refusals.{CreateRefusal, create_refusal_of, storage, unread, missing_metadata, additional_field, said_or, RefusesCreation}
+use Rattle.zarrs_options.specs.declared.error.ArrayCreateError.{ArrayCreateError}
 use Rattle.zarrs_options.specs.declared.versions.MetadataRetrieveVersion.{MetadataRetrieveVersion}
 use Rattle.zarrs_options.specs.declared.versions.MetadataRetrieveVersion.TheVariants as retrieve
 use Rattle.zarrs_creation.specs.Meanings.{creation, path_said, ◌>>=◌}
@@ -130,6 +131,12 @@ IsMetadataKey retrieve.V2 path key = IsV2Key path key
 abbrev pub NamesOneOf : (List ℕ → Type 0) → CreateRefusal → Type 0
 NamesOneOf is_asked (unread key) = is_asked key
 NamesOneOf is_asked _ = Unit {0}
+
+-- A value was read, as this says; or it says a refusal, and this is refused. What could not be read is at one of these keys.
+pub record ReadsOrRefuses {T A : Type 0} (is_asked : List ℕ → Type 0) (said : Result A CreateRefusal) (means : T → A) (result : Result T ArrayCreateError) : Type 0 where
+  pub read : IfOk result (λ value. said ≡ Ok (means value))
+  pub refused : IfErr result (λ e. RefusesCreation said (create_refusal_of e))
+  pub named : IfErr result (λ e. NamesOneOf is_asked (create_refusal_of e))
 
 -- ---- what may be asked
 

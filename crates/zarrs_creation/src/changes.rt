@@ -7,9 +7,10 @@ ghost use Rattle.zarrs_chunk_grid.specs.Axes.{sizes_of};
 ghost use Rattle.zarrs_chunk_grid.specs.GridView.{configuration_of, array_extents_of};
 ghost use Rattle.zarrs_options.specs.Given.{grid_given, regular_extension};
 ghost use Rattle.zarrs_options.specs.Refusals.{create_refusal_of, RefusesCreation, chunk_grid};
-ghost use Rattle.zarrs_options.specs.Refusals.{unsupported_v2, said_or};
+ghost use Rattle.zarrs_options.specs.Refusals.{unsupported_v2};
 ghost use Rattle.zarrs_creation.specs.Changes.{naming, with_names, with_shape, reshaping};
 ghost use Rattle.zarrs_creation.specs.Changes.{grid_of_metadata, dimensions_said, chunks_said, regridding};
+ghost use Rattle.zarrs_creation.specs.Making.{MakesPart};
 ghost use Rattle.zarrs_creation.specs.Meanings.{shape_said};
 
 use crate::parts::{check_names, grid_from};
@@ -93,13 +94,10 @@ fn grid_over(
     metadata: &ArrayMetadata,
     shape: &[u64],
 ) -> Result<ChunkGrid, ArrayCreateError>
-    ensures made { IfOk result (λ g.
-        grid_of_metadata (with_shape shape.now (metadata_view metadata.now))
-        ≡ Some (configuration_of g)) }
+    ensures said { MakesPart chunk_grid
+        (grid_of_metadata (with_shape shape.now (metadata_view metadata.now))) configuration_of
+        result }
     ensures shape { IfOk result (λ g. array_extents_of g ≡ shape.now) }
-    ensures refused { IfErr result (λ e. RefusesCreation (said_or chunk_grid
-        (grid_of_metadata (with_shape shape.now (metadata_view metadata.now))))
-        (create_refusal_of e)) }
 {
     match metadata {
         ArrayMetadata::V3(document) => grid_from(alloc, &document.chunk_grid, shape),

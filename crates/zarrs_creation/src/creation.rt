@@ -1,13 +1,12 @@
 //! The parts of an array that metadata of either version says.
-ghost use Rattle.std.specs.Prelude.{◌≡◌, Ok, IsSome, IfOk, IfErr, OnOk};
+ghost use Rattle.std.specs.Prelude.{◌≡◌, Ok, IfErr, OnOk};
 ghost use Rattle.zarrs_metadata.specs.Conversion.{to_v3};
 ghost use Rattle.zarrs_metadata.specs.Refusals.{RefusesConversion};
 ghost use Rattle.zarrs_metadata_v2.specs.View.{document_v2_view};
 ghost use Rattle.zarrs_metadata.specs.Versions.{metadata_view};
-ghost use Rattle.zarrs_data_type.specs.Cell.{fill_cell};
-ghost use Rattle.zarrs_data_type.specs.Kind.{kind};
 ghost use Rattle.zarrs_options.specs.Refusals.{create_refusal_of, RefusesCreation};
-ghost use Rattle.zarrs_creation.specs.Meanings.{meaning_with, extents_said, creation_v2, creation};
+ghost use Rattle.zarrs_creation.specs.Making.{MakesParts};
+ghost use Rattle.zarrs_creation.specs.Meanings.{extents_said, creation_v2, creation};
 
 use crate::parts::{ArrayParts, parts_of_v3};
 use std::alloc::{AllocError, Global};
@@ -82,12 +81,7 @@ fn not_converted(
 }
 
 fn parts_of_v2(alloc: Global, metadata: &ArrayMetadataV2) -> Result<ArrayParts, ArrayCreateError>
-    ensures made { IfOk result (λ parts. creation_v2 (document_v2_view metadata.now) ≡ Ok
-        (meaning_with parts.grid parts.keys parts.chain parts.data_type parts.fill_value)) }
-    ensures filled { IfOk result
-        (λ parts. IsSome (fill_cell (kind parts.data_type) parts.fill_value)) }
-    ensures refused { IfErr result (λ e.
-        RefusesCreation (creation_v2 (document_v2_view metadata.now)) (create_refusal_of e)) }
+    ensures { MakesParts (creation_v2 (document_v2_view metadata.now)) result }
 {
     match array_metadata_v2_to_v3(alloc, metadata) {
         Ok(document) => {
@@ -107,12 +101,7 @@ fn parts_of_v2(alloc: Global, metadata: &ArrayMetadataV2) -> Result<ArrayParts, 
 /// another number of dimensions; E15 for no fill value of the data type; E25 for a compressor, or filters that are not
 /// those of the data type. E26 may come at any time.
 pub fn parts_said(alloc: Global, metadata: &ArrayMetadata) -> Result<ArrayParts, ArrayCreateError>
-    ensures made { IfOk result (λ parts. creation (metadata_view metadata.now) ≡ Ok
-        (meaning_with parts.grid parts.keys parts.chain parts.data_type parts.fill_value)) }
-    ensures filled { IfOk result
-        (λ parts. IsSome (fill_cell (kind parts.data_type) parts.fill_value)) }
-    ensures refused { IfErr result
-        (λ e. RefusesCreation (creation (metadata_view metadata.now)) (create_refusal_of e)) }
+    ensures { MakesParts (creation (metadata_view metadata.now)) result }
 {
     match metadata {
         ArrayMetadata::V3(document) => parts_of_v3(alloc, document),

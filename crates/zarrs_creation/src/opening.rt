@@ -1,5 +1,5 @@
 //! The metadata that a store holds for an array.
-ghost use Rattle.std.specs.Prelude.{◌≡◌, None, Ok, IfOk, IfErr, OnOk, option_map};
+ghost use Rattle.std.specs.Prelude.{◌≡◌, None, Ok, IfErr, OnOk, option_map};
 ghost use Rattle.zarrs_metadata_v3.specs.View.{document_view, fields_view};
 ghost use Rattle.zarrs_metadata_v2.specs.View.{document_v2_view};
 ghost use Rattle.zarrs_metadata.specs.Versions.{metadata_view};
@@ -9,7 +9,7 @@ ghost use Rattle.zarrs_creation.specs.Opening.{v3_key, attributes_key, value_ask
 ghost use Rattle.zarrs_creation.specs.Opening.{fields_understood, understood_document, document_v2_read, attributed};
 ghost use Rattle.zarrs_creation.specs.Opening.{stored_v3, stored_v2, stored_default, stored_by, stored_metadata};
 ghost use Rattle.zarrs_creation.specs.Opening.{MayAskKey, MayAskV2, MayAskMetadata};
-ghost use Rattle.zarrs_creation.specs.Opening.{IsV2Key, IsMetadataKey, NamesOneOf};
+ghost use Rattle.zarrs_creation.specs.Opening.{IsV2Key, IsMetadataKey, NamesOneOf, ReadsOrRefuses};
 
 use std::alloc::{AllocError, Global};
 use zarrs_keys::{NodePath, meta_key_v2_array, meta_key_v2_attributes, meta_key_v3};
@@ -56,10 +56,8 @@ fn document_from(
     key: StoreKey,
     bytes: &[u8],
 ) -> Result<ArrayMetadataV3, ArrayCreateError>
-    ensures read { IfOk result (λ m. understood_document key bytes.now ≡ Ok (document_view m)) }
-    ensures refused { IfErr result
-        (λ e. RefusesCreation (understood_document key bytes.now) (create_refusal_of e)) }
-    ensures named { IfErr result (λ e. NamesOneOf (λ at. at ≡ key) (create_refusal_of e)) }
+    ensures { ReadsOrRefuses (λ at. at ≡ key) (understood_document key bytes.now) document_view
+        result }
 {
     let metadata = match ArrayMetadataV3::from_slice(alloc, bytes) {
         Ok(metadata) => metadata,
@@ -78,10 +76,8 @@ fn document_v2_from(
     key: StoreKey,
     bytes: &[u8],
 ) -> Result<ArrayMetadataV2, ArrayCreateError>
-    ensures read { IfOk result (λ m. document_v2_read key bytes.now ≡ Ok (document_v2_view m)) }
-    ensures refused { IfErr result
-        (λ e. RefusesCreation (document_v2_read key bytes.now) (create_refusal_of e)) }
-    ensures named { IfErr result (λ e. NamesOneOf (λ at. at ≡ key) (create_refusal_of e)) }
+    ensures { ReadsOrRefuses (λ at. at ≡ key) (document_v2_read key bytes.now) document_v2_view
+        result }
 {
     match ArrayMetadataV2::from_slice(alloc, bytes) {
         Ok(metadata) => Ok(metadata),
@@ -99,10 +95,8 @@ fn value_asked<S: ReadableStorageTraits>(
     key: &StoreKey,
 ) -> Result<Option<Bytes>, ArrayCreateError>
     requires { MayAskKey (S.state storage.now) key.now }
-    ensures read { IfOk result (λ value. value_asked (S.state storage.now) key.now ≡ Ok value) }
-    ensures refused { IfErr result
-        (λ e. RefusesCreation (value_asked (S.state storage.now) key.now) (create_refusal_of e)) }
-    ensures named { IfErr result (λ e. NamesOneOf (λ at. at ≡ key.now) (create_refusal_of e)) }
+    ensures { ReadsOrRefuses (λ at. at ≡ key.now) (value_asked (S.state storage.now) key.now)
+        (λ value. value) result }
 {
     let value = storage.get(alloc, key)?;
     Ok(value)
@@ -115,12 +109,8 @@ fn stored_v3<S: ReadableStorageTraits>(
     path: &NodePath,
 ) -> Result<Option<ArrayMetadata>, ArrayCreateError>
     requires { MayAskKey (S.state storage.now) (v3_key path.now) }
-    ensures read { IfOk result (λ m. stored_v3 (S.state storage.now) path.now
-        ≡ Ok (option_map metadata_view m)) }
-    ensures refused { IfErr result
-        (λ e. RefusesCreation (stored_v3 (S.state storage.now) path.now) (create_refusal_of e)) }
-    ensures named { IfErr result (λ e. NamesOneOf (λ at. at ≡ v3_key path.now)
-        (create_refusal_of e)) }
+    ensures { ReadsOrRefuses (λ at. at ≡ v3_key path.now) (stored_v3 (S.state storage.now) path.now)
+        (option_map metadata_view) result }
 {
     let key = meta_key_v3(alloc, path)?;
     let value = value_asked(alloc, storage, &key)?;
@@ -141,13 +131,9 @@ fn attributed<S: ReadableStorageTraits>(
     metadata: ArrayMetadataV2,
 ) -> Result<ArrayMetadataV2, ArrayCreateError>
     requires { MayAskKey (S.state storage.now) (attributes_key path.now) }
-    ensures read { IfOk result (λ m. attributed (S.state storage.now) path.now
-        (document_v2_view metadata) ≡ Ok (document_v2_view m)) }
-    ensures refused { IfErr result (λ e. RefusesCreation
-        (attributed (S.state storage.now) path.now (document_v2_view metadata))
-        (create_refusal_of e)) }
-    ensures named { IfErr result (λ e. NamesOneOf (λ at. at ≡ attributes_key path.now)
-        (create_refusal_of e)) }
+    ensures { ReadsOrRefuses (λ at. at ≡ attributes_key path.now)
+        (attributed (S.state storage.now) path.now (document_v2_view metadata)) document_v2_view
+        result }
 {
     let key = meta_key_v2_attributes(alloc, path)?;
     let value = value_asked(alloc, storage, &key)?;
@@ -171,11 +157,8 @@ fn stored_v2<S: ReadableStorageTraits>(
     path: &NodePath,
 ) -> Result<Option<ArrayMetadata>, ArrayCreateError>
     requires { MayAskV2 (S.state storage.now) path.now }
-    ensures read { IfOk result (λ m. stored_v2 (S.state storage.now) path.now
-        ≡ Ok (option_map metadata_view m)) }
-    ensures refused { IfErr result
-        (λ e. RefusesCreation (stored_v2 (S.state storage.now) path.now) (create_refusal_of e)) }
-    ensures named { IfErr result (λ e. NamesOneOf (IsV2Key path.now) (create_refusal_of e)) }
+    ensures { ReadsOrRefuses (IsV2Key path.now) (stored_v2 (S.state storage.now) path.now)
+        (option_map metadata_view) result }
 {
     let key = meta_key_v2_array(alloc, path)?;
     let value = value_asked(alloc, storage, &key)?;
@@ -197,12 +180,8 @@ fn stored_default<S: ReadableStorageTraits>(
 ) -> Result<Option<ArrayMetadata>, ArrayCreateError>
     requires v3 { MayAskKey (S.state storage.now) (v3_key path.now) }
     requires v2 { MayAskV2 (S.state storage.now) path.now }
-    ensures read { IfOk result (λ m. stored_default (S.state storage.now) path.now
-        ≡ Ok (option_map metadata_view m)) }
-    ensures refused { IfErr result (λ e. RefusesCreation
-        (stored_default (S.state storage.now) path.now) (create_refusal_of e)) }
-    ensures named { IfErr result (λ e. NamesOneOf (IsMetadataKey retrieve.Default path.now)
-        (create_refusal_of e)) }
+    ensures { ReadsOrRefuses (IsMetadataKey retrieve.Default path.now)
+        (stored_default (S.state storage.now) path.now) (option_map metadata_view) result }
 {
     let found = stored_v3(alloc, storage, path)?;
     match found {
@@ -219,12 +198,8 @@ fn stored_by<S: ReadableStorageTraits>(
     version: MetadataRetrieveVersion,
 ) -> Result<Option<ArrayMetadata>, ArrayCreateError>
     requires { MayAskMetadata version (S.state storage.now) path.now }
-    ensures read { IfOk result (λ m. stored_by version (S.state storage.now) path.now
-        ≡ Ok (option_map metadata_view m)) }
-    ensures refused { IfErr result (λ e. RefusesCreation
-        (stored_by version (S.state storage.now) path.now) (create_refusal_of e)) }
-    ensures named { IfErr result (λ e. NamesOneOf (IsMetadataKey version path.now)
-        (create_refusal_of e)) }
+    ensures { ReadsOrRefuses (IsMetadataKey version path.now)
+        (stored_by version (S.state storage.now) path.now) (option_map metadata_view) result }
 {
     match version {
         MetadataRetrieveVersion::Default => stored_default(alloc, storage, path),
@@ -246,12 +221,8 @@ pub fn stored_metadata<S: ReadableStorageTraits>(
     version: MetadataRetrieveVersion,
 ) -> Result<ArrayMetadata, ArrayCreateError>
     requires { MayAskMetadata version (S.state storage.now) path.now }
-    ensures read { IfOk result (λ m. stored_metadata version (S.state storage.now) path.now
-        ≡ Ok (metadata_view m)) }
-    ensures refused { IfErr result (λ e. RefusesCreation
-        (stored_metadata version (S.state storage.now) path.now) (create_refusal_of e)) }
-    ensures named { IfErr result (λ e. NamesOneOf (IsMetadataKey version path.now)
-        (create_refusal_of e)) }
+    ensures { ReadsOrRefuses (IsMetadataKey version path.now)
+        (stored_metadata version (S.state storage.now) path.now) metadata_view result }
 {
     let found = stored_by(alloc, storage, path, version)?;
     match found {

@@ -1,5 +1,5 @@
 //! The parts of an array that a V3 document says.
-ghost use Rattle.std.specs.Prelude.{◌≡◌, map, length, Some, Ok, IsSome, IfOk, IfErr, OnOk, option_map};
+ghost use Rattle.std.specs.Prelude.{◌≡◌, map, length, Ok, None, IsSome, IfOk, IfErr, OnOk, option_map};
 ghost use Rattle.zarrs_metadata_parts.specs.Extension.{extension_view};
 ghost use Rattle.zarrs_metadata_parts.specs.FillValue.{fill_data};
 ghost use Rattle.zarrs_metadata_parts.specs.Refusals.{RefusesMeaning};
@@ -17,7 +17,8 @@ ghost use Rattle.zarrs_options.specs.Options.{transformers_said};
 ghost use Rattle.zarrs_options.specs.Refusals.{create_refusal_of, said_or, RefusesCreation};
 ghost use Rattle.zarrs_options.specs.Refusals.{codecs, data_type, chunk_grid, fill_value_metadata};
 ghost use Rattle.zarrs_options.specs.Refusals.{storage_transformers, chunk_key_encoding};
-ghost use Rattle.zarrs_creation.specs.Meanings.{names_said, meaning_with, creation_v3};
+ghost use Rattle.zarrs_creation.specs.Making.{MakesPart, MakesParts};
+ghost use Rattle.zarrs_creation.specs.Meanings.{names_said, creation_v3};
 
 use std::alloc::{AllocError, Global};
 use zarrs_chunk_grid::ChunkGrid;
@@ -46,10 +47,7 @@ pub struct ArrayParts {
 }
 
 fn chain_from(alloc: Global, metadatas: &[MetadataV3]) -> Result<CodecChain, ArrayCreateError>
-    ensures made { IfOk result (λ chain.
-        chain_said (map extension_view metadatas.now) ≡ Some (chain_data chain)) }
-    ensures refused { IfErr result (λ e. RefusesCreation
-        (said_or codecs (chain_said (map extension_view metadatas.now))) (create_refusal_of e)) }
+    ensures { MakesPart codecs (chain_said (map extension_view metadatas.now)) chain_data result }
 {
     match CodecChain::from_metadata(alloc, metadatas) {
         Ok(chain) => Ok(chain),
@@ -101,9 +99,7 @@ fn codec_reason(
 /// # Errors
 /// E13 for none. E26 may come at any time.
 pub fn data_type_from(alloc: Global, metadata: &MetadataV3) -> Result<DataType, ArrayCreateError>
-    ensures made { IfOk result (λ t. kind_of (extension_view metadata.now) ≡ Some (kind t)) }
-    ensures refused { IfErr result (λ e. RefusesCreation
-        (said_or data_type (kind_of (extension_view metadata.now))) (create_refusal_of e)) }
+    ensures { MakesPart data_type (kind_of (extension_view metadata.now)) kind result }
 {
     match DataType::from_metadata(alloc, metadata) {
         Ok(data_type) => Ok(data_type),
@@ -137,12 +133,9 @@ pub(crate) fn grid_from(
     metadata: &MetadataV3,
     shape: &[u64],
 ) -> Result<ChunkGrid, ArrayCreateError>
-    ensures made { IfOk result (λ g.
-        grid_said (extension_view metadata.now) shape.now ≡ Some (configuration_of g)) }
+    ensures said { MakesPart chunk_grid (grid_said (extension_view metadata.now) shape.now)
+        configuration_of result }
     ensures shape { IfOk result (λ g. array_extents_of g ≡ shape.now) }
-    ensures refused { IfErr result (λ e. RefusesCreation
-        (said_or chunk_grid (grid_said (extension_view metadata.now) shape.now))
-        (create_refusal_of e)) }
 {
     match ChunkGrid::from_metadata(alloc, metadata, shape) {
         Ok(grid) => Ok(grid),
@@ -174,12 +167,9 @@ fn fill_value_from(
     name: &str,
     metadata: &FillValueMetadata,
 ) -> Result<FillValue, ArrayCreateError>
-    ensures made { IfOk result (λ f.
-        fill_said (kind data_type.now) (fill_data metadata.now) ≡ Some f) }
+    ensures said { MakesPart (fill_value_metadata name.now (fill_data metadata.now))
+        (fill_said (kind data_type.now) (fill_data metadata.now)) (λ f. f) result }
     ensures filled { IfOk result (λ f. IsSome (fill_cell (kind data_type.now) f)) }
-    ensures refused { IfErr result (λ e. RefusesCreation
-        (said_or (fill_value_metadata name.now (fill_data metadata.now))
-        (fill_said (kind data_type.now) (fill_data metadata.now))) (create_refusal_of e)) }
 {
     match data_type.fill_value_v3(alloc, metadata) {
         Ok(fill_value) => Ok(fill_value),
@@ -191,10 +181,8 @@ fn fill_value_from(
 }
 
 fn check_transformers(alloc: Global, metadatas: &[MetadataV3]) -> Result<(), ArrayCreateError>
-    ensures made { OnOk result (transformers_said (map extension_view metadatas.now) ≡ Some tt) }
-    ensures refused { IfErr result (λ e. RefusesCreation
-        (said_or storage_transformers (transformers_said (map extension_view metadatas.now)))
-        (create_refusal_of e)) }
+    ensures { MakesPart storage_transformers (transformers_said (map extension_view metadatas.now))
+        (λ none. none) result }
 {
     match StorageTransformerChain::from_metadata(alloc, metadatas) {
         Ok(_) => Ok(()),
@@ -204,10 +192,8 @@ fn check_transformers(alloc: Global, metadatas: &[MetadataV3]) -> Result<(), Arr
 }
 
 fn keys_from(alloc: Global, metadata: &MetadataV3) -> Result<ChunkKeyEncoding, ArrayCreateError>
-    ensures made { IfOk result (λ k. key_encoding_of (extension_view metadata.now) ≡ Some k) }
-    ensures refused { IfErr result (λ e. RefusesCreation
-        (said_or chunk_key_encoding (key_encoding_of (extension_view metadata.now)))
-        (create_refusal_of e)) }
+    ensures { MakesPart chunk_key_encoding (key_encoding_of (extension_view metadata.now))
+        (λ keys. keys) result }
 {
     match ChunkKeyEncoding::from_metadata(alloc, metadata) {
         Ok(keys) => Ok(keys),
@@ -240,12 +226,7 @@ pub(crate) fn parts_of_v3(
     alloc: Global,
     metadata: &ArrayMetadataV3,
 ) -> Result<ArrayParts, ArrayCreateError>
-    ensures made { IfOk result (λ parts. creation_v3 (document_view metadata.now) ≡ Ok
-        (meaning_with parts.grid parts.keys parts.chain parts.data_type parts.fill_value)) }
-    ensures filled { IfOk result
-        (λ parts. IsSome (fill_cell (kind parts.data_type) parts.fill_value)) }
-    ensures refused { IfErr result
-        (λ e. RefusesCreation (creation_v3 (document_view metadata.now)) (create_refusal_of e)) }
+    ensures { MakesParts (creation_v3 (document_view metadata.now)) result }
 {
     let shape = metadata.shape.as_slice();
     let chain = chain_from(alloc, &metadata.codecs)?;

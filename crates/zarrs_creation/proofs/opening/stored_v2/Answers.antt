@@ -6,58 +6,45 @@ use Rattle.zarrs_creation.proofs.Named.{named_more}
 use Rattle.zarrs_creation.proofs.Openings.{v2_refused, v2_bad, v2_unattributed, v2_absent, v2_read}
 use Rattle.zarrs_creation.proofs.opening.stored_v2.Goals as goal
 
-pub returns-in_err-value-clause-refused : goal.returns-in_err-value-clause-refused
-returns-in_err-value-clause-refused g c =
+pub returns-in_err-value : goal.returns-in_err-value
+returns-in_err-value g c =
     let state = g.S.ReadableStorageTraits.state c.args.storage.now in
     let path = c.args.path.now in
     let why = v2_refused state path (create_refusal_of c.in_err-value.field-0.0) (subst (λ (k : List ℕ). RefusesCreation (value_asked state k) (create_refusal_of c.in_err-value.field-0.0)) c.in_ok-key.ensures.key c.in_err-value.ensures.refused) in
-    search (rules, why)
+    let r = create_refusal_of c.in_err-value.field-0.0 in
+    let named = named_more (λ at. at ≡ c.in_ok-key.key) (IsV2Key c.args.path.now) r (λ at is. inl (is ∙ c.in_ok-key.ensures.key)) c.in_err-value.ensures.named in
+    record { read = search rules; refused = search (rules, why); named = search (rules, named) }
 
-pub returns-in-None-clause-read : goal.returns-in-None-clause-read
-returns-in-None-clause-read g c =
+pub returns-in-None : goal.returns-in-None
+returns-in-None g c =
     let state = g.S.ReadableStorageTraits.state c.args.storage.now in
     let path = c.args.path.now in
     let asked = subst (λ (k : List ℕ). value_asked state k ≡ Ok None) c.in_ok-key.ensures.key (c.in_ok-value.ensures.read ∙ ap Ok c.in-None.is) in
-    v2_absent state path asked
+    record { read = v2_absent state path asked; refused = search rules; named = search rules }
 
-pub returns-in_err-array-in-Some-clause-refused : goal.returns-in_err-array-in-Some-clause-refused
-returns-in_err-array-in-Some-clause-refused g c =
+pub returns-in_err-array-in-Some : goal.returns-in_err-array-in-Some
+returns-in_err-array-in-Some g c =
     let state = g.S.ReadableStorageTraits.state c.args.storage.now in
     let path = c.args.path.now in
     let asked = subst (λ (k : List ℕ). value_asked state k ≡ Ok (Some c.in-Some.bytes)) c.in_ok-key.ensures.key (c.in_ok-value.ensures.read ∙ ap Ok c.in-Some.is) in
     let why = v2_bad state path (create_refusal_of c.in_err-array-in-Some.field-0.0) c.in-Some.bytes asked (rw (c.deref.ensures, c.in_ok-key.ensures.key) at c.in_err-array-in-Some.ensures.refused) in
-    search (rules, why)
+    let r = create_refusal_of c.in_err-array-in-Some.field-0.0 in
+    let named = named_more (λ at. at ≡ c.in_ok-key.key) (IsV2Key c.args.path.now) r (λ at is. inl (is ∙ c.in_ok-key.ensures.key)) c.in_err-array-in-Some.ensures.named in
+    record { read = search rules; refused = search (rules, why); named = search (rules, named) }
 
-pub returns-in_err-metadata-in-Some-clause-refused : goal.returns-in_err-metadata-in-Some-clause-refused
-returns-in_err-metadata-in-Some-clause-refused g c =
+pub returns-in_err-metadata-in-Some : goal.returns-in_err-metadata-in-Some
+returns-in_err-metadata-in-Some g c =
     let state = g.S.ReadableStorageTraits.state c.args.storage.now in
     let path = c.args.path.now in
     let asked = subst (λ (k : List ℕ). value_asked state k ≡ Ok (Some c.in-Some.bytes)) c.in_ok-key.ensures.key (c.in_ok-value.ensures.read ∙ ap Ok c.in-Some.is) in
     let why = v2_unattributed state path (create_refusal_of c.in_err-metadata-in-Some.field-0.0) c.in-Some.bytes (document_v2_view c.in_ok-array-in-Some.array) asked (rw (c.deref.ensures, c.in_ok-key.ensures.key) at c.in_ok-array-in-Some.ensures.read) c.in_err-metadata-in-Some.ensures.refused in
-    search (rules, why)
+    let r = create_refusal_of c.in_err-metadata-in-Some.field-0.0 in
+    let named = named_more (λ at. at ≡ attributes_key path) (IsV2Key path) r (λ at is. inr is) c.in_err-metadata-in-Some.ensures.named in
+    record { read = search rules; refused = search (rules, why); named = search (rules, named) }
 
-pub returns-in_ok-metadata-in-Some-clause-read : goal.returns-in_ok-metadata-in-Some-clause-read
-returns-in_ok-metadata-in-Some-clause-read g c =
+pub returns-in_ok-metadata-in-Some : goal.returns-in_ok-metadata-in-Some
+returns-in_ok-metadata-in-Some g c =
     let state = g.S.ReadableStorageTraits.state c.args.storage.now in
     let path = c.args.path.now in
     let asked = subst (λ (k : List ℕ). value_asked state k ≡ Ok (Some c.in-Some.bytes)) c.in_ok-key.ensures.key (c.in_ok-value.ensures.read ∙ ap Ok c.in-Some.is) in
-    v2_read state path c.in-Some.bytes (document_v2_view c.in_ok-array-in-Some.array) (document_v2_view c.in_ok-metadata-in-Some.metadata) asked (rw (c.deref.ensures, c.in_ok-key.ensures.key) at c.in_ok-array-in-Some.ensures.read) c.in_ok-metadata-in-Some.ensures.read
-
-pub returns-in_err-value-clause-named : goal.returns-in_err-value-clause-named
-returns-in_err-value-clause-named g c =
-    let r = create_refusal_of c.in_err-value.field-0.0 in
-    let named = named_more (λ at. at ≡ c.in_ok-key.key) (IsV2Key c.args.path.now) r (λ at is. inl (is ∙ c.in_ok-key.ensures.key)) c.in_err-value.ensures.named in
-    search (rules, named)
-
-pub returns-in_err-array-in-Some-clause-named : goal.returns-in_err-array-in-Some-clause-named
-returns-in_err-array-in-Some-clause-named g c =
-    let r = create_refusal_of c.in_err-array-in-Some.field-0.0 in
-    let named = named_more (λ at. at ≡ c.in_ok-key.key) (IsV2Key c.args.path.now) r (λ at is. inl (is ∙ c.in_ok-key.ensures.key)) c.in_err-array-in-Some.ensures.named in
-    search (rules, named)
-
-pub returns-in_err-metadata-in-Some-clause-named : goal.returns-in_err-metadata-in-Some-clause-named
-returns-in_err-metadata-in-Some-clause-named g c =
-    let path = c.args.path.now in
-    let r = create_refusal_of c.in_err-metadata-in-Some.field-0.0 in
-    let named = named_more (λ at. at ≡ attributes_key path) (IsV2Key path) r (λ at is. inr is) c.in_err-metadata-in-Some.ensures.named in
-    search (rules, named)
+    record { read = v2_read state path c.in-Some.bytes (document_v2_view c.in_ok-array-in-Some.array) (document_v2_view c.in_ok-metadata-in-Some.metadata) asked (rw (c.deref.ensures, c.in_ok-key.ensures.key) at c.in_ok-array-in-Some.ensures.read) c.in_ok-metadata-in-Some.ensures.read; refused = search rules; named = search rules }

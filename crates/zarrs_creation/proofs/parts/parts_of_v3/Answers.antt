@@ -7,49 +7,49 @@ use Rattle.zarrs_options.specs.Refusals.{create_refusal_of}
 use Rattle.zarrs_creation.proofs.Order.{at_codecs, at_data_type, at_grid, at_fill, at_transformers, at_keys, at_names, all_said}
 use Rattle.zarrs_creation.proofs.parts.parts_of_v3.Goals as goal
 
-pub returns-in_err-chain-clause-refused : goal.returns-in_err-chain-clause-refused
-returns-in_err-chain-clause-refused c =
+pub returns-in_err-chain : goal.returns-in_err-chain
+returns-in_err-chain c =
     let why = at_codecs (document_view c.args.metadata.now) (create_refusal_of c.in_err-chain.field-0.0)
     (rw c.deref.ensures.value at c.in_err-chain.ensures.refused) in
-    search (rules, why)
+    record { made = search rules; filled = search rules; refused = search (rules, why) }
 
-pub returns-in_err-data_type-clause-refused : goal.returns-in_err-data_type-clause-refused
-returns-in_err-data_type-clause-refused c =
+pub returns-in_err-data_type : goal.returns-in_err-data_type
+returns-in_err-data_type c =
     let why = at_data_type (document_view c.args.metadata.now) (create_refusal_of c.in_err-data_type.field-0.0) (chain_data c.in_ok-chain.chain) (rw c.deref.ensures.value at c.in_ok-chain.ensures.made)
     c.in_err-data_type.ensures.refused in
-    search (rules, why)
+    record { made = search rules; filled = search rules; refused = search (rules, why) }
 
-pub returns-in_err-grid-clause-refused : goal.returns-in_err-grid-clause-refused
-returns-in_err-grid-clause-refused c =
+pub returns-in_err-grid : goal.returns-in_err-grid
+returns-in_err-grid c =
     let why = at_grid (document_view c.args.metadata.now) (create_refusal_of c.in_err-grid.field-0.0) (chain_data c.in_ok-chain.chain) (rw c.deref.ensures.value at c.in_ok-chain.ensures.made) (kind c.in_ok-data_type.data_type) c.in_ok-data_type.ensures.made
-    (rw c.as_slice-shape.ensures.value at c.in_err-grid.ensures.refused) in
-    search (rules, why)
+    (rw c.as_slice-shape.ensures.value at c.in_err-grid.ensures.said.refused) in
+    record { made = search rules; filled = search rules; refused = search (rules, why) }
 
-pub returns-in_err-fill_value-clause-refused : goal.returns-in_err-fill_value-clause-refused
-returns-in_err-fill_value-clause-refused c =
-    let why = at_fill (document_view c.args.metadata.now) (create_refusal_of c.in_err-fill_value.field-0.0) (chain_data c.in_ok-chain.chain) (rw c.deref.ensures.value at c.in_ok-chain.ensures.made) (kind c.in_ok-data_type.data_type) c.in_ok-data_type.ensures.made (configuration_of c.in_ok-grid.grid) (rw c.as_slice-shape.ensures.value at c.in_ok-grid.ensures.made)
-    (rw c.name.ensures at c.in_err-fill_value.ensures.refused) in
-    search (rules, why)
+pub returns-in_err-fill_value : goal.returns-in_err-fill_value
+returns-in_err-fill_value c =
+    let why = at_fill (document_view c.args.metadata.now) (create_refusal_of c.in_err-fill_value.field-0.0) (chain_data c.in_ok-chain.chain) (rw c.deref.ensures.value at c.in_ok-chain.ensures.made) (kind c.in_ok-data_type.data_type) c.in_ok-data_type.ensures.made (configuration_of c.in_ok-grid.grid) (rw c.as_slice-shape.ensures.value at c.in_ok-grid.ensures.said.made)
+    (rw c.name.ensures at c.in_err-fill_value.ensures.said.refused) in
+    record { made = search rules; filled = search rules; refused = search (rules, why) }
 
-pub returns-in_err-check_transformers-clause-refused : goal.returns-in_err-check_transformers-clause-refused
-returns-in_err-check_transformers-clause-refused c =
-    let why = at_transformers (document_view c.args.metadata.now) (create_refusal_of c.in_err-check_transformers.field-0.0) (chain_data c.in_ok-chain.chain) (rw c.deref.ensures.value at c.in_ok-chain.ensures.made) (kind c.in_ok-data_type.data_type) c.in_ok-data_type.ensures.made (configuration_of c.in_ok-grid.grid) (rw c.as_slice-shape.ensures.value at c.in_ok-grid.ensures.made) c.in_ok-fill_value.fill_value c.in_ok-fill_value.ensures.made
+pub returns-in_err-check_transformers : goal.returns-in_err-check_transformers
+returns-in_err-check_transformers c =
+    let why = at_transformers (document_view c.args.metadata.now) (create_refusal_of c.in_err-check_transformers.field-0.0) (chain_data c.in_ok-chain.chain) (rw c.deref.ensures.value at c.in_ok-chain.ensures.made) (kind c.in_ok-data_type.data_type) c.in_ok-data_type.ensures.made (configuration_of c.in_ok-grid.grid) (rw c.as_slice-shape.ensures.value at c.in_ok-grid.ensures.said.made) c.in_ok-fill_value.fill_value c.in_ok-fill_value.ensures.said.made
     (rw c.deref-2.ensures.value at c.in_err-check_transformers.ensures.refused) in
-    search (rules, why)
+    record { made = search rules; filled = search rules; refused = search (rules, why) }
 
-pub returns-in_err-keys-clause-refused : goal.returns-in_err-keys-clause-refused
-returns-in_err-keys-clause-refused c =
-    let why = at_keys (document_view c.args.metadata.now) (create_refusal_of c.in_err-keys.field-0.0) (chain_data c.in_ok-chain.chain) (rw c.deref.ensures.value at c.in_ok-chain.ensures.made) (kind c.in_ok-data_type.data_type) c.in_ok-data_type.ensures.made (configuration_of c.in_ok-grid.grid) (rw c.as_slice-shape.ensures.value at c.in_ok-grid.ensures.made) c.in_ok-fill_value.fill_value c.in_ok-fill_value.ensures.made (rw c.deref-2.ensures.value at c.in_ok-check_transformers.ensures.made)
+pub returns-in_err-keys : goal.returns-in_err-keys
+returns-in_err-keys c =
+    let why = at_keys (document_view c.args.metadata.now) (create_refusal_of c.in_err-keys.field-0.0) (chain_data c.in_ok-chain.chain) (rw c.deref.ensures.value at c.in_ok-chain.ensures.made) (kind c.in_ok-data_type.data_type) c.in_ok-data_type.ensures.made (configuration_of c.in_ok-grid.grid) (rw c.as_slice-shape.ensures.value at c.in_ok-grid.ensures.said.made) c.in_ok-fill_value.fill_value c.in_ok-fill_value.ensures.said.made (rw c.deref-2.ensures.value at c.in_ok-check_transformers.ensures.made)
     c.in_err-keys.ensures.refused in
-    search (rules, why)
+    record { made = search rules; filled = search rules; refused = search (rules, why) }
 
-pub returns-in_err-check_names-clause-refused : goal.returns-in_err-check_names-clause-refused
-returns-in_err-check_names-clause-refused c =
-    let why = at_names (document_view c.args.metadata.now) (create_refusal_of c.in_err-check_names.field-0.0) (chain_data c.in_ok-chain.chain) (rw c.deref.ensures.value at c.in_ok-chain.ensures.made) (kind c.in_ok-data_type.data_type) c.in_ok-data_type.ensures.made (configuration_of c.in_ok-grid.grid) (rw c.as_slice-shape.ensures.value at c.in_ok-grid.ensures.made) c.in_ok-fill_value.fill_value c.in_ok-fill_value.ensures.made (rw c.deref-2.ensures.value at c.in_ok-check_transformers.ensures.made) c.in_ok-keys.keys c.in_ok-keys.ensures.made
+pub returns-in_err-check_names : goal.returns-in_err-check_names
+returns-in_err-check_names c =
+    let why = at_names (document_view c.args.metadata.now) (create_refusal_of c.in_err-check_names.field-0.0) (chain_data c.in_ok-chain.chain) (rw c.deref.ensures.value at c.in_ok-chain.ensures.made) (kind c.in_ok-data_type.data_type) c.in_ok-data_type.ensures.made (configuration_of c.in_ok-grid.grid) (rw c.as_slice-shape.ensures.value at c.in_ok-grid.ensures.said.made) c.in_ok-fill_value.fill_value c.in_ok-fill_value.ensures.said.made (rw c.deref-2.ensures.value at c.in_ok-check_transformers.ensures.made) c.in_ok-keys.keys c.in_ok-keys.ensures.made
     (rw c.as_slice-shape.ensures.value at c.in_err-check_names.ensures.refused) in
-    search (rules, why)
+    record { made = search rules; filled = search rules; refused = search (rules, why) }
 
-pub returns-clause-made : goal.returns-clause-made
-returns-clause-made c =
-    let said = all_said (document_view c.args.metadata.now) (chain_data c.in_ok-chain.chain) (rw c.deref.ensures.value at c.in_ok-chain.ensures.made) (kind c.in_ok-data_type.data_type) c.in_ok-data_type.ensures.made (configuration_of c.in_ok-grid.grid) (rw c.as_slice-shape.ensures.value at c.in_ok-grid.ensures.made) c.in_ok-fill_value.fill_value c.in_ok-fill_value.ensures.made (rw c.deref-2.ensures.value at c.in_ok-check_transformers.ensures.made) c.in_ok-keys.keys c.in_ok-keys.ensures.made (rw c.as_slice-shape.ensures.value at c.in_ok-check_names.ensures.made) in
-    rw (c.in_ok-grid.ensures.shape, c.as_slice-shape.ensures.value) said
+pub returns : goal.returns
+returns c =
+    let said = all_said (document_view c.args.metadata.now) (chain_data c.in_ok-chain.chain) (rw c.deref.ensures.value at c.in_ok-chain.ensures.made) (kind c.in_ok-data_type.data_type) c.in_ok-data_type.ensures.made (configuration_of c.in_ok-grid.grid) (rw c.as_slice-shape.ensures.value at c.in_ok-grid.ensures.said.made) c.in_ok-fill_value.fill_value c.in_ok-fill_value.ensures.said.made (rw c.deref-2.ensures.value at c.in_ok-check_transformers.ensures.made) c.in_ok-keys.keys c.in_ok-keys.ensures.made (rw c.as_slice-shape.ensures.value at c.in_ok-check_names.ensures.made) in
+    record { made = rw (c.in_ok-grid.ensures.shape, c.as_slice-shape.ensures.value) said; filled = c.in_ok-fill_value.ensures.filled; refused = tt }
