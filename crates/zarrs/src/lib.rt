@@ -48,6 +48,8 @@ pub use zarrs_data_type::ArrayBytesFixedDisjointViewCreateError;
 pub use zarrs_data_type::ArrayBytesOffsets;
 pub use zarrs_data_type::ArrayBytesOptional;
 pub use zarrs_data_type::ArrayBytesVariableLength;
+pub use zarrs_data_type::CellType;
+pub use zarrs_data_type::ChunkType;
 pub use zarrs_data_type::DataType;
 pub use zarrs_data_type::DataTypeFillValueError;
 pub use zarrs_data_type::DataTypeFillValueMetadataError;
