@@ -22,110 +22,42 @@ pub mod parts;
 mod reopening;
 
 pub use reopening::written_and_opened;
-pub use zarrs_chunk_grid::ChunkGrid;
-pub use zarrs_chunk_grid::ChunkGridTraits;
-pub use zarrs_chunk_grid::ChunkShape;
-pub use zarrs_chunk_grid::ChunkSizes;
-pub use zarrs_chunk_grid::GridError;
-pub use zarrs_chunk_grid::RectangularChunkGrid;
-pub use zarrs_chunk_grid::RegularBoundedChunkGrid;
-pub use zarrs_chunk_grid::RegularChunkGrid;
-pub use zarrs_chunk_grid::SizeList;
-pub use zarrs_codec::ArrayToArrayCodec;
-pub use zarrs_codec::ArrayToBytesCodec;
-pub use zarrs_codec::BytesToBytesCodecs;
-pub use zarrs_codec::ChainTraits;
-pub use zarrs_codec::CodecChain;
-pub use zarrs_codec::CodecError;
-pub use zarrs_codec::CodecMetadataOptions;
-pub use zarrs_codec::CodecOptions;
-pub use zarrs_codec::CodecSpecificOptions;
-pub use zarrs_codec::Misfit;
-pub use zarrs_codec::PartialWrite;
-pub use zarrs_data_type::ArrayBytes;
-pub use zarrs_data_type::ArrayBytesDecodeIntoTarget;
-pub use zarrs_data_type::ArrayBytesFixedDisjointViewCreateError;
-pub use zarrs_data_type::ArrayBytesOffsets;
-pub use zarrs_data_type::ArrayBytesOptional;
-pub use zarrs_data_type::ArrayBytesVariableLength;
-pub use zarrs_data_type::CellType;
-pub use zarrs_data_type::ChunkType;
-pub use zarrs_data_type::DataType;
-pub use zarrs_data_type::DataTypeFillValueError;
-pub use zarrs_data_type::DataTypeFillValueMetadataError;
-pub use zarrs_data_type::Element;
-pub use zarrs_data_type::ElementError;
-pub use zarrs_data_type::ElementOwned;
-pub use zarrs_data_type::ExpectedFixedLengthBytesError;
-pub use zarrs_data_type::ExpectedOptionalBytesError;
-pub use zarrs_data_type::ExpectedVariableLengthBytesError;
-pub use zarrs_data_type::FillValue;
-pub use zarrs_data_type::FromArrayBytes;
-pub use zarrs_data_type::IntoArrayBytes;
-pub use zarrs_data_type::IntoField;
-pub use zarrs_data_type::RefusedTarget;
-pub use zarrs_data_type::SubdividedTarget;
-pub use zarrs_data_type::copy_fill_value_into;
-pub use zarrs_data_type::data_type;
-pub use zarrs_engine::ArrayError;
-pub use zarrs_engine::Call;
-pub use zarrs_engine::ChunkPartialDecoder;
-pub use zarrs_engine::ChunkPartialEncoder;
-pub use zarrs_engine::Engine;
-pub use zarrs_engine::Reply;
-pub use zarrs_engine_layout::ArrayLayout;
-pub use zarrs_keys::ChunkKeyEncoding;
-pub use zarrs_keys::ChunkKeyEncodingTraits;
-pub use zarrs_keys::ChunkKeySeparator;
-pub use zarrs_keys::KeySuffix;
-pub use zarrs_keys::KeySuffixError;
-pub use zarrs_keys::NodePath;
-pub use zarrs_keys::NodePathError;
-pub use zarrs_metadata::AdditionalFieldV3;
-pub use zarrs_metadata::AdditionalFieldsV3;
-pub use zarrs_metadata::ArrayMetadata;
-pub use zarrs_metadata::ArrayMetadataV2;
-pub use zarrs_metadata::ArrayMetadataV2Order;
-pub use zarrs_metadata::ArrayMetadataV2ToV3Error;
-pub use zarrs_metadata::ArrayMetadataV3;
-pub use zarrs_metadata::DataTypeMetadataV2;
-pub use zarrs_metadata::DimensionName;
-pub use zarrs_metadata::EndianV2;
-pub use zarrs_metadata::FillValueMetadata;
-pub use zarrs_metadata::KindV2;
-pub use zarrs_metadata::MetadataError;
-pub use zarrs_metadata::MetadataV3;
-pub use zarrs_metadata::PluginCreateError;
-pub use zarrs_metadata::TypeV2;
-pub use zarrs_metadata::array_metadata_v2_to_v3;
-pub use zarrs_options::AdditionalFieldUnsupportedError;
-pub use zarrs_options::ArrayBuilderChunkGridMetadata;
-pub use zarrs_options::ArrayCreateError;
-pub use zarrs_options::ArrayMetadataOptions;
-pub use zarrs_options::MetadataConvertVersion;
-pub use zarrs_options::MetadataEraseVersion;
-pub use zarrs_options::MetadataRetrieveVersion;
-pub use zarrs_options::StorageTransformerChain;
-pub use zarrs_options::chunk_shape_to_array_shape;
-pub use zarrs_storage::Bytes;
-pub use zarrs_storage::Fault;
-pub use zarrs_storage::Fence;
-pub use zarrs_storage::Lent;
-pub use zarrs_storage::MemoryStore;
-pub use zarrs_storage::ReadOnly;
-pub use zarrs_storage::ReadableStorageTraits;
-pub use zarrs_storage::Stop;
-pub use zarrs_storage::StorageError;
-pub use zarrs_storage::StoreKey;
-pub use zarrs_storage::WholeRefused;
-pub use zarrs_storage::WritableStorageTraits;
-pub use zarrs_subset::ArrayIndices;
-pub use zarrs_subset::ArrayIndicesTinyVec;
-pub use zarrs_subset::ArrayShape;
-pub use zarrs_subset::ArraySubset;
-pub use zarrs_subset::ArraySubsetError;
-pub use zarrs_subset::ArraySubsetTraits;
-pub use zarrs_subset::IncompatibleDimensionalityError;
-pub use zarrs_subset::SizeOverflow;
-pub use zarrs_subset::ravel_indices;
-pub use zarrs_subset::unravel_index;
+pub use zarrs_chunk_grid::{
+    ChunkGrid, ChunkGridTraits, ChunkShape, ChunkSizes, GridError, RectangularChunkGrid,
+    RegularBoundedChunkGrid, RegularChunkGrid, SizeList,
+};
+pub use zarrs_codec::{
+    ArrayToArrayCodec, ArrayToBytesCodec, BytesToBytesCodecs, ChainTraits, CodecChain, CodecError,
+    CodecMetadataOptions, CodecOptions, CodecSpecificOptions, Misfit, PartialWrite,
+};
+pub use zarrs_data_type::{
+    ArrayBytes, ArrayBytesDecodeIntoTarget, ArrayBytesFixedDisjointViewCreateError,
+    ArrayBytesOffsets, ArrayBytesOptional, ArrayBytesVariableLength, DataType,
+    DataTypeFillValueError, DataTypeFillValueMetadataError, Element, ElementError, ElementOwned,
+    ExpectedFixedLengthBytesError, ExpectedOptionalBytesError, ExpectedVariableLengthBytesError,
+    FillValue, FromArrayBytes, IntoArrayBytes, IntoField, RefusedTarget, SubdividedTarget,
+    copy_fill_value_into, data_type,
+};
+pub use zarrs_engine::{ArrayError, Call, Engine, Reply};
+pub use zarrs_keys::{
+    ChunkKeyEncoding, ChunkKeyEncodingTraits, ChunkKeySeparator, KeySuffix, KeySuffixError,
+    NodePath, NodePathError,
+};
+pub use zarrs_metadata::{
+    AdditionalFieldV3, AdditionalFieldsV3, ArrayMetadata, ArrayMetadataV2, ArrayMetadataV2Order,
+    ArrayMetadataV2ToV3Error, ArrayMetadataV3, DataTypeMetadataV2, DimensionName,
+    FillValueMetadata, MetadataError, MetadataV3, PluginCreateError, array_metadata_v2_to_v3,
+};
+pub use zarrs_options::{
+    AdditionalFieldUnsupportedError, ArrayBuilderChunkGridMetadata, ArrayCreateError,
+    ArrayMetadataOptions, MetadataConvertVersion, MetadataEraseVersion, MetadataRetrieveVersion,
+    StorageTransformerChain, chunk_shape_to_array_shape,
+};
+pub use zarrs_storage::{
+    Bytes, Fault, Fence, Lent, MemoryStore, ReadOnly, ReadableStorageTraits, Stop, StorageError,
+    StoreKey, WholeRefused, WritableStorageTraits,
+};
+pub use zarrs_subset::{
+    ArrayIndices, ArrayIndicesTinyVec, ArrayShape, ArraySubset, ArraySubsetError,
+    ArraySubsetTraits, IncompatibleDimensionalityError, SizeOverflow, ravel_indices, unravel_index,
+};
