@@ -1,5 +1,5 @@
 -- What a read of a region has after some of its chunks.
-use Rattle.std.specs.Prelude.{◌≡◌, ℕ, ◌++◌, List, [], ◌∷◌, length, Some, Contains, if◌then◌else◌}
+use Rattle.std.specs.Prelude.{◌≡◌, ℕ, ◌++◌, List, [], ◌∷◌, length, Some, Contains, Result, IfErr, IfOk, if◌then◌else◌}
 use Rattle.zarrs_chunk_grid.specs.Grids.{box_at}
 use Rattle.zarrs_subset.specs.Boxes.{position_count}
 use Rattle.zarrs_subset.specs.Regions.{Box, Holds, IsLong, cell_in, seen_from, LiesInBox}
@@ -7,13 +7,17 @@ use Rattle.zarrs_storage.specs.Store.{StoreState}
 use Rattle.zarrs_data_type.specs.Cell.{Cell}
 use Rattle.zarrs_data_type.specs.ArrayData.{ArrayData}
 use Rattle.zarrs_data_type.specs.Cells.{cells}
+use Rattle.zarrs_data_type.specs.RegionData.{region_data}
+use Rattle.zarrs_data_type_region.specs.declared.region_cells.RegionCells.{RegionCells}
 use Rattle.zarrs_engine_calls.specs.Layout.{Layout}
 use Rattle.zarrs_codec_chain.specs.Parts.{DecodesPart}
 use Rattle.zarrs_engine_calls.specs.Content.{value_at, content, decoded_cells}
 use Rattle.zarrs_engine_calls.specs.ChunkBoxes.{CoversBox}
 use Rattle.zarrs_engine_calls.specs.Fronts.{is_in_chunks}
 use Rattle.zarrs_engine_calls.specs.Reads.{IsBroken}
-use Rattle.zarrs_engine_calls.specs.StateRefusals.{IsPart}
+use Rattle.zarrs_engine_calls.specs.Refusals.{refusal_of}
+use Rattle.zarrs_engine_calls.specs.StateRefusals.{IsPart, RefusesSomeChunk}
+use Rattle.zarrs_engine_calls.specs.declared.error.ArrayError.{ArrayError}
 
 -- The data is one cell for each position of the region: in these chunks the content, wherever there is one, and else fill.
 -- A chunk that the region covers decodes.
@@ -30,6 +34,12 @@ pub record HasRead (layout : Layout) (region : Box) (chunks : List (List ℕ)) (
 abbrev pub ReadsOneMore : Layout → Box → List ℕ → StoreState → ArrayData → ArrayData → Type 0
 ReadsOneMore layout region index state old new =
     (chunks : List (List ℕ)) → HasRead layout region chunks state old → HasRead layout region (chunks ++ index ∷ []) state new
+
+-- the cells of a region took those that one chunk has of it, or the read is refused
+pub record ReadsChunkOf (layout : Layout) (region : Box) (index : List ℕ) (state : StoreState) (held : ArrayData)
+    (result : Result RegionCells ArrayError) : Type 0 where
+  pub read : IfOk result (λ made. ReadsOneMore layout region index state held (region_data made))
+  pub refused : IfErr result (λ e. RefusesSomeChunk layout region (index ∷ []) state (refusal_of e))
 
 -- the chunk is present, and the data is a decode of a part of it, which is seen from its corner
 pub record DecodesStored (layout : Layout) (index : List ℕ) (part : Box) (state : StoreState) (made : ArrayData) : Type 0 where

@@ -40,7 +40,7 @@ impl<
     ghost use Rattle.zarrs_engine.specs.Engine.{layout_of, store_of};
     ghost use Rattle.zarrs_engine.specs.Outcomes.{RetrievesRegionOrRefuses, MayRetrieveRegion};
     ghost use Rattle.zarrs_engine_layout.specs.Covers.{CoverRegion};
-    ghost use Rattle.zarrs_engine.specs.RegionReads.{DecodesStored, HasRead, IsRegionOf, ReadsOneMore};
+    ghost use Rattle.zarrs_engine.specs.RegionReads.{DecodesStored, HasRead, IsRegionOf, ReadsChunkOf};
 
     /// Returns how many cells a region has.
     ///
@@ -135,11 +135,8 @@ impl<
             (position_count (box_of region.now).shape) }
         requires ask { MayReadPart (layout_of self.now) (box_of region.now) chunk_indices.now
             (store_of S.state self.now) }
-        ensures read { IfOk result (λ made. ReadsOneMore (layout_of self.now) (box_of region.now)
-            chunk_indices.now (store_of S.state self.now) (region_data held) (region_data made)) }
-        ensures refused { IfErr result
-            (λ e. RefusesSomeChunk (layout_of self.now) (box_of region.now)
-            (chunk_indices.now ∷ []) (store_of S.state self.now) (refusal_of e)) }
+        ensures { ReadsChunkOf (layout_of self.now) (box_of region.now) chunk_indices.now
+            (store_of S.state self.now) (region_data held) result }
     {
         let chunk = self.layout.chunk_box(alloc, chunk_indices)?;
         if lies_in_box(&chunk, region) {
@@ -166,11 +163,8 @@ impl<
             (position_count (box_of region.now).shape) }
         requires ask { MayAskChunk (layout_of self.now) chunk_indices.now
             (store_of S.state self.now) }
-        ensures read { IfOk result (λ made. ReadsOneMore (layout_of self.now) (box_of region.now)
-            chunk_indices.now (store_of S.state self.now) (region_data held) (region_data made)) }
-        ensures refused { IfErr result
-            (λ e. RefusesSomeChunk (layout_of self.now) (box_of region.now)
-            (chunk_indices.now ∷ []) (store_of S.state self.now) (refusal_of e)) }
+        ensures { ReadsChunkOf (layout_of self.now) (box_of region.now) chunk_indices.now
+            (store_of S.state self.now) (region_data held) result }
     {
         let Some(encoded) = self.stored_bytes(alloc, chunk_indices)? else {
             return Ok(held);
@@ -205,11 +199,8 @@ impl<
             (position_count (box_of region.now).shape) }
         requires ask { MayDecodePart (layout_of self.now) (chunk_part (box_of region.now)
             (box_of chunk.now)) chunk_indices.now (store_of S.state self.now) }
-        ensures read { IfOk result (λ made. ReadsOneMore (layout_of self.now) (box_of region.now)
-            chunk_indices.now (store_of S.state self.now) (region_data held) (region_data made)) }
-        ensures refused { IfErr result
-            (λ e. RefusesSomeChunk (layout_of self.now) (box_of region.now)
-            (chunk_indices.now ∷ []) (store_of S.state self.now) (refusal_of e)) }
+        ensures { ReadsChunkOf (layout_of self.now) (box_of region.now) chunk_indices.now
+            (store_of S.state self.now) (region_data held) result }
     {
         let Some(shared) = shared_positions(alloc, region, chunk)? else {
             return Ok(held);

@@ -10,8 +10,8 @@ use Rattle.zarrs_engine.proofs.PartBytes.{box_why}
 use Rattle.zarrs_engine.proofs.PartWrites.{lies_covers}
 use Rattle.zarrs_engine.proofs.engine.Engine.with_chunk.Goals as goal
 
-pub returns-in_err-chunk-clause-refused : goal.returns-in_err-chunk-clause-refused
-returns-in_err-chunk-clause-refused g c =
+pub returns-in_err-chunk : goal.returns-in_err-chunk
+returns-in_err-chunk g c =
     let layout = layout_of c.args.self.now in
     let state = g.S.ReadableStorageTraits.state c.args.self.now.storage in
     let why = box_why layout (box_of c.args.region.now) c.args.chunk_indices.now state c.requires.boxed (refusal_of c.in_err-chunk.field-0.0) c.in_err-chunk.ensures.refused in

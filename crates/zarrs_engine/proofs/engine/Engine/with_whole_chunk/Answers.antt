@@ -16,22 +16,26 @@ use Rattle.zarrs_engine.proofs.PartBytes.{bytes_why}
 use Rattle.zarrs_engine.proofs.RegionReads.{read_absent, read_present}
 use Rattle.zarrs_engine.proofs.engine.Engine.with_whole_chunk.Goals as goal
 
-pub returns-in_err-encoded-clause-refused : goal.returns-in_err-encoded-clause-refused
-returns-in_err-encoded-clause-refused g c =
+pub returns-in_err-encoded : goal.returns-in_err-encoded
+returns-in_err-encoded g c =
     let layout = layout_of c.args.self.now in
     let state = g.S.ReadableStorageTraits.state c.args.self.now.storage in
     let why = some_key layout (box_of c.args.region.now) c.args.chunk_indices.now state c.requires.boxed (refusal_of c.in_err-encoded.field-0.0) c.in_err-encoded.ensures.refused in
     search (rules, why)
 
-pub returns-in_default-clause-read : goal.returns-in_default-clause-read
-returns-in_default-clause-read g c =
+pub returns-in_default : goal.returns-in_default
+returns-in_default g c =
     let layout = layout_of c.args.self.now in
     let state = g.S.ReadableStorageTraits.state c.args.self.now.storage in
     let absent = sym c.in_ok-encoded.ensures.value ∙ c.in_default.is in
-    read_absent layout c.args.self.now.layout.lawful (box_of c.args.region.now) c.args.chunk_indices.now state c.requires.boxed (region_data c.args.held) absent
+    record {
+      read =
+          read_absent layout c.args.self.now.layout.lawful (box_of c.args.region.now) c.args.chunk_indices.now state c.requires.boxed (region_data c.args.held) absent;
+      refused = tt;
+    }
 
-pub returns-in_err-part-clause-refused : goal.returns-in_err-part-clause-refused
-returns-in_err-part-clause-refused g c =
+pub returns-in_err-part : goal.returns-in_err-part
+returns-in_err-part g c =
     let layout = layout_of c.args.self.now in
     let state = g.S.ReadableStorageTraits.state c.args.self.now.storage in
     let stands = sym (ap Some c.deref.ensures ∙ sym c.in-Some.is ∙ c.in_ok-encoded.ensures.value) in
@@ -55,8 +59,8 @@ with_part-requires-clause-part g c =
     let has = subst (HasCells layout.kind part) r.reads.count (HasCells-some layout.kind part r.chunk r.is_chunk) in
     subst (λ (b : Box). HasCells layout.kind part (position_count b.shape)) (sym c.requires.chunk) has
 
-pub returns-clause-read : goal.returns-clause-read
-returns-clause-read g c =
+pub returns : goal.returns
+returns g c =
     let layout = layout_of c.args.self.now in
     let state = g.S.ReadableStorageTraits.state c.args.self.now.storage in
     let index = c.args.chunk_indices.now in
@@ -66,4 +70,8 @@ returns-clause-read g c =
     let new = region_data c.in_ok-made.made in
     let stands = sym (ap Some c.deref.ensures ∙ sym c.in-Some.is ∙ c.in_ok-encoded.ensures.value) in
     let takes = subst (λ (b : Box). TakesCells layout.kind region b part old new) c.requires.chunk c.in_ok-made.ensures in
-    read_present layout c.args.self.now.layout.lawful region index state c.requires.boxed old part new c.deref.result.now stands c.in_ok-part.ensures.cells takes
+    record {
+      read =
+          read_present layout c.args.self.now.layout.lawful region index state c.requires.boxed old part new c.deref.result.now stands c.in_ok-part.ensures.cells takes;
+      refused = tt;
+    }
