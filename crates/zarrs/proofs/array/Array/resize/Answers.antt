@@ -1,4 +1,4 @@
-use Rattle.std.proofs.Common.{List, ℕ, length, refl, rules, ap, ◌∙◌}
+use Rattle.std.proofs.Common.{List, ℕ, length, refl, ap, ◌∙◌}
 use Rattle.zarrs_metadata.specs.Versions.{metadata_view}
 use Rattle.zarrs_chunk_grid.specs.GridView.{array_extents_of}
 use Rattle.zarrs_engine.specs.Engine.{grid_of}
@@ -7,25 +7,15 @@ use Rattle.zarrs.proofs.Layouts.{parts_are}
 use Rattle.zarrs.proofs.Regridded.{one_configuration, shape_fits, shape_kept, agrees_resized}
 use Rattle.zarrs.proofs.array.Array.resize.Goals as goal
 
-pub returns-in_err-resize : goal.returns-in_err-resize
-returns-in_err-resize g c =
+pub returns-in_err-resize-clause-kept : goal.returns-in_err-resize-clause-kept
+returns-in_err-resize-clause-kept g c =
     let old = c.args.self.now in
-    let is = c.in_err-resize.ensures in
     record {
-      done = tt;
-      metadata = tt;
-      shape = tt;
-      refused = search rules;
-      canonical = is.canonical;
-      layout = is.layout;
-      untouched = record { layout_kept = is.layout_kept; metadata = refl; codec_options = refl; codec_specific_options = refl; metadata_options = refl };
-      kept = record {
-        others = is.others;
-        metadata = shape_kept (metadata_view old.metadata) old.engine c.resize.new.self (parts_are old) is.layout_kept;
-        codec_options = refl;
-        codec_specific_options = refl;
-        metadata_options = refl;
-      };
+      others = c.in_err-resize.ensures.others;
+      metadata = shape_kept (metadata_view old.metadata) old.engine c.resize.new.self (parts_are old) c.in_err-resize.ensures.layout_kept;
+      codec_options = refl;
+      codec_specific_options = refl;
+      metadata_options = refl;
     }
 
 pub overwrite_shape-requires : goal.overwrite_shape-requires
@@ -46,18 +36,15 @@ invariant_of-self-2 g c =
     let shaped = c.overwrite_shape.ensures ∙ ap (λ (s : List ℕ). with_shape s m) (c.array_shape.ensures.value ∙ ap array_extents_of c.chunk_grid.ensures) in
     record { agrees = agrees_resized m old.engine new (parts_are old) others same c.overwrite_shape.new.metadata shaped }
 
-pub returns : goal.returns
-returns g c =
-    let m = metadata_view c.args.self.now.metadata in
-    let is = c.in_ok-resize.ensures in
-    let shaped = c.overwrite_shape.ensures ∙ ap (λ (s : List ℕ). with_shape s m) (c.array_shape.ensures.value ∙ ap array_extents_of c.chunk_grid.ensures) in
-    record {
-      done = is.done;
-      metadata = shaped ∙ ap (λ (s : List ℕ). with_shape s m) is.shape;
-      shape = is.shape;
-      refused = tt;
-      canonical = is.canonical;
-      layout = is.layout;
-      untouched = tt;
-      kept = record { others = is.others; metadata = shaped; codec_options = refl; codec_specific_options = refl; metadata_options = refl };
-    }
+pub returns-clause-metadata : goal.returns-clause-metadata
+returns-clause-metadata g c =
+    c.overwrite_shape.ensures ∙ ap (λ (s : List ℕ). with_shape s (metadata_view c.args.self.now.metadata)) (c.array_shape.ensures.value ∙ ap array_extents_of c.chunk_grid.ensures ∙ c.in_ok-resize.ensures.shape)
+
+pub returns-clause-kept : goal.returns-clause-kept
+returns-clause-kept g c = record {
+  others = c.in_ok-resize.ensures.others;
+  metadata = c.overwrite_shape.ensures ∙ ap (λ (s : List ℕ). with_shape s (metadata_view c.args.self.now.metadata)) (c.array_shape.ensures.value ∙ ap array_extents_of c.chunk_grid.ensures);
+  codec_options = refl;
+  codec_specific_options = refl;
+  metadata_options = refl;
+}
