@@ -252,9 +252,9 @@ module _ (form : Form) (size width : ℕ) where
       }
 
   pub written_all : (start : ℕ) (bytes left : List ℕ) (column : ℕ) (old new : Option (List ℕ)) → Written start bytes left column old new → length left < size
-      → (cells : List ℕ) × (rest : List ℕ) × (cells ++ rest ≡ bytes) × (length rest < size) × WritesCells form size width start cells old new
+      → (cells : List ℕ) × (rest : List ℕ) × (cells ++ rest ≡ bytes) × (length rest < size) × WritesCells form size width start column cells old new
   written_all start bytes left column old new front short =
-      (front.cells, left, front.split, short, record { count = front.count; text = front.text; written = front.written; reads = front.reads })
+      (front.cells, left, front.split, short, record { count = front.count; text = front.text; ends = front.column_is; written = front.written; reads = front.reads })
 
   pub reads_none : (start : ℕ) (old : Option (List ℕ)) (before : List ℕ) → ReadsCells form size width 0 start old old before before
   reads_none start None before = tt
@@ -272,4 +272,53 @@ module _ (form : Form) (size width : ℕ) where
             (subst (λ c. first_cell form size width c front.1 ≡ Some there.1.0) column_is there.1.1) (ap (λ c. behind form size width c front.1) (sym column_is)),
         there.0,
         there.1.2 ∙ ap (λ l. l ++ there.1.0) front.4 ∙ append_assoc before front.0 there.1.0,
+      )
+
+  -- ---- cells behind cells
+
+  cells_both : (count more column : ℕ) (text cells left others rest : List ℕ) → cells_in form size width count column text ≡ Some (cells, left)
+      → cells_in form size width more (column_after width column count) left ≡ Some (others, rest)
+      → cells_in form size width (count + more) column text ≡ Some (cells ++ others, rest)
+  cells_both zero more column text cells left others rest first then =
+      let none : [] ≡ cells = ap cells_of first in
+      let all : text ≡ left = ap left_of first in
+      ap (cells_in form size width more column) all ∙ then ∙ ap (λ l. Some (l ++ others, rest)) none
+  cells_both (suc count) more column text cells left others rest first then =
+      let parts = joined_parts (first_cell form size width column text) (cells_in form size width count (next width column) (behind form size width column text)) cells left first in
+      rw (parts.2, cells_both count more (next width column) (behind form size width column text) parts.1 left others rest parts.3 then)
+      (ap (λ l. Some (l, rest)) (sym (append_assoc parts.0 parts.1 others) ∙ ap (λ l. l ++ others) (sym parts.4)))
+
+  column_both : (column count more : ℕ) → column_after width column (count + more) ≡ column_after width (column_after width column count) more
+  column_both column zero more = refl
+  column_both column (suc count) more = column_both (next width column) count more
+
+  pub writes_none : (column : ℕ) (held : Option (List ℕ)) → WritesCells form size width column column [] held held
+  writes_none column held = record { count = 0; text = []; ends = refl; written = appends_none held; reads = λ more. refl }
+
+  pub writes_both : (column middle after : ℕ) (cells others : List ℕ) (old between new : Option (List ℕ)) → WritesCells form size width column middle cells old between
+      → WritesCells form size width middle after others between new → WritesCells form size width column after (cells ++ others) old new
+  writes_both column middle after cells others old between new first then =
+      record {
+        count = first.count + then.count;
+        text = first.text ++ then.text;
+        ends = then.ends ∙ ap (λ c. column_after width c then.count) first.ends ∙ sym (column_both column first.count then.count);
+        written = appends_both old between new first.text then.text first.written then.written;
+        reads = λ more.
+            ap (cells_in form size width (first.count + then.count) column) (append_assoc first.text then.text more)
+            ∙ cells_both first.count then.count column (first.text ++ (then.text ++ more)) cells (then.text ++ more) others more (first.reads (then.text ++ more))
+            (subst (λ c. cells_in form size width then.count c (then.text ++ more) ≡ Some (others, more)) first.ends (then.reads more));
+      }
+
+  pub reads_both : (count more column middle : ℕ) (old between new : Option (List ℕ)) (cells others : List ℕ) → middle ≡ column_after width column count
+      → ReadsCells form size width count column old between [] cells → ReadsCells form size width more middle between new [] others
+      → ReadsCells form size width (count + more) column old new [] (cells ++ others)
+  reads_both count more column middle None between new cells others column_is front one = tt
+  reads_both count more column middle (Some text) between new cells others column_is front one =
+      let there = subst (λ b. ReadsCells form size width more middle b new [] others) front.3 one in (
+        front.0 ++ there.0,
+        there.1,
+        cells_both count more column text front.0 front.1 there.0 there.1 front.2
+            (subst (λ c. cells_in form size width more c front.1 ≡ Some (there.0, there.1)) column_is there.2),
+        there.3,
+        ap (λ l. l ++ others) front.4 ∙ ap (λ l. front.0 ++ l) there.4,
       )

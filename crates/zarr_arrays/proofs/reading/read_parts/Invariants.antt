@@ -1,0 +1,9 @@
+use Rattle.zarrs_subset.specs.Regions.{box_of, positions}
+use Rattle.zarrs_subset.specs.Walks.{positions_left}
+use Rattle.zarrs.specs.Arrays.{layout_of_array}
+use Rattle.zarr_arrays.specs.Reading.{HasReadPart}
+use Rattle.zarr_arrays.proofs.Asked.{Each}
+use Rattle.zarr_arrays.proofs.reading.read_parts.Given as goal
+
+abbrev pub invariant-loop-indices : goal.invariant-loop-indices
+invariant-loop-indices l = Each (HasReadPart (layout_of_array l.array) (box_of l.region) l.store) (positions (box_of l.chunks)) (positions_left l.indices-iterator)
