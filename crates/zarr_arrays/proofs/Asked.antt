@@ -67,10 +67,13 @@ module _ {R : Type 0} (layout : Layout) where
   other_length store index other = record { key = λ long. absurd (other long.long); places = λ long value place at below. refl }
 
   pub keeps_read : (old new : DirectoryStore R) (key : List ℕ) → ReadsKey old new key → KeepsRead layout old new
-  keeps_read old new key reads index before = record { key = λ long. reads.keys.kept (layout.key index) (before.key long); places = λ long value place at below. refl }
+  keeps_read old new key reads = record {
+    chunks = λ index before. record { key = λ long. reads.keys.kept (layout.key index) (before.key long); places = λ long value place at below. refl };
+    directory = reads.directory;
+  }
 
   pub keeps_same : (store : DirectoryStore R) → KeepsRead layout store store
-  keeps_same store index before = before
+  keeps_same store = record { chunks = λ index before. before; directory = refl }
 
   -- a chunk that the region covers
   pub is_no_part : (store : DirectoryStore R) (region : Box) (index : List ℕ) → CoversBox region (box_at layout.grid index) → HasReadPart layout region store index

@@ -82,16 +82,13 @@ fn first_rows(alloc: Global, array: &Array<()>, region: &ArraySubset) -> Result<
 
 impl Bands {
     /// Makes the bands of the region; an empty one has none.
-    #[tactic(auto, using(zarrs_subset::proofs::WalkLemmas::positions_empty))]
     pub fn of(region: ArraySubset) -> Bands
         ensures { places_left result ≡ positions (box_of region) }
     {
-        let left = if region.is_empty() {
-            None
-        } else {
-            Some(region)
-        };
-        Bands { left }
+        if region.is_empty() {
+            return Bands { left: None };
+        }
+        Bands { left: Some(region) }
     }
 
     /// Cuts off the next band, whole rows of the chunks of the array where memory holds as many. The positions of the

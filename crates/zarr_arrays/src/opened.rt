@@ -1,8 +1,9 @@
 //! Arrays in directories: opened, and their calls.
-ghost use Rattle.std.specs.Prelude.{◌≡◌, IfOk};
+ghost use Rattle.std.specs.Prelude.{◌≡◌, IfOk, OnOk};
 ghost use Rattle.zarrs_data_type.specs.ArrayData.{data_of};
 ghost use Rattle.zarrs_subset.specs.Regions.{box_of};
 ghost use Rattle.zarrs.specs.Arrays.{layout_of_array};
+ghost use Rattle.zarrs_directory.specs.Directory.{directory_of};
 ghost use Rattle.zarr_arrays.specs.Reading.{ReadsCells};
 
 use crate::reading::{outside, read_chunk, read_chunks, read_parts, reading, writing};
@@ -162,7 +163,8 @@ impl<'r> Opened<'r> {
     ) -> Result<ArrayBytes<'static>, Refusal>
         ensures cells { IfOk result (λ cells. ReadsCells (layout_of_array self.new.array)
             (box_of region.now) self.new.store (data_of cells)) }
-        ensures same { self.new.array ≡ self.old.array }
+        ensures array { self.new.array ≡ self.old.array }
+        ensures directory { OnOk result (directory_of self.new.store ≡ directory_of self.old.store) }
     {
         self.store.forget();
         read_chunks(&self.array, &mut self.store, alloc, region)?;

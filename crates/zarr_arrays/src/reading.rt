@@ -6,7 +6,7 @@ ghost use Rattle.zarrs_chunk_grid.specs.Grids.{met};
 ghost use Rattle.zarrs_engine_calls.specs.ChunkBoxes.{CoversBox, chunks_met};
 ghost use Rattle.zarrs_engine_calls.specs.Reach.{MayAskChunks, MayAskParts};
 ghost use Rattle.zarrs.specs.Arrays.{layout_of_array, store_of_array};
-ghost use Rattle.zarrs_directory.specs.Directory.{directory_state};
+ghost use Rattle.zarrs_directory.specs.Directory.{directory_of, directory_state};
 ghost use Rattle.zarr_arrays.specs.Reading.{HasRead, HasReadPart, KeepsRead};
 
 use crate::opened::Store;
@@ -67,9 +67,10 @@ pub(crate) fn read_chunks(
     alloc: Global,
     region: &ArraySubset,
 ) -> Result<(), Refusal>
-    ensures { OnOk result (MayAskChunks (layout_of_array array.now)
+    ensures ask { OnOk result (MayAskChunks (layout_of_array array.now)
         (chunks_met (layout_of_array array.now).grid (box_of region.now))
         (directory_state store.new)) }
+    ensures directory { OnOk result (directory_of store.new ≡ directory_of store.old) }
 {
     let chunks = chunks_of(array, alloc, region)?;
     for indices in chunks.indices(alloc) {
@@ -114,9 +115,10 @@ pub(crate) fn read_parts(
     alloc: Global,
     region: &ArraySubset,
 ) -> Result<(), Refusal>
-    ensures { OnOk result (MayAskParts (layout_of_array array.now) (box_of region.now)
+    ensures ask { OnOk result (MayAskParts (layout_of_array array.now) (box_of region.now)
         (chunks_met (layout_of_array array.now).grid (box_of region.now))
         (directory_state store.new)) }
+    ensures directory { OnOk result (directory_of store.new ≡ directory_of store.old) }
 {
     let chunks = chunks_of(array, alloc, region)?;
     for indices in chunks.indices(alloc) {

@@ -68,11 +68,10 @@ fn write_cell<W: Write>(out: &mut W, rows: &Rows, column: u64, cell: &[u8]) -> i
 /// Writes cells from the column on: a list for each row, on a line of its own. Returns the column behind them.
 ///
 /// # Errors
-/// `InvalidData` for a cell that no text says, or of more than 8 bytes; what the writer says.
+/// `InvalidData` for cells of no byte or more than 8, and for bytes behind the last whole cell; what the writer says.
 pub fn write_cells<W: Write>(out: &mut W, rows: &Rows, column: u64, bytes: &[u8]) -> io::Result<u64>
-    ensures { IfOk result (λ after. (cells : List ℕ) × (left : List ℕ) × (cells ++ left ≡ bytes.now) × (length left < rows.now.size)
-        × WritesCells rows.now.form rows.now.size rows.now.width column after cells
-        (W.contents out.old) (W.contents out.new)) }
+    ensures { IfOk result (λ after. WritesCells rows.now.form rows.now.size rows.now.width column
+        after bytes.now (W.contents out.old) (W.contents out.new)) }
 {
     if rows.size == 0 || rows.size > 8 {
         return Err(io::Error::from(ErrorKind::InvalidData));
@@ -85,7 +84,10 @@ pub fn write_cells<W: Write>(out: &mut W, rows: &Rows, column: u64, bytes: &[u8]
         column = rows.next(column);
         rest = more;
     }
-    Ok(column)
+    if rest.is_empty() {
+        return Ok(column);
+    }
+    Err(io::Error::from(ErrorKind::InvalidData))
 }
 
 /// Returns the text without the blanks that it begins and ends with.

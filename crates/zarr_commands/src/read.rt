@@ -1,10 +1,16 @@
 //! `get`.
+ghost use Rattle.std.specs.Prelude.{◌≡◌, IfOk, OnOk};
+ghost use Rattle.zarrs_subset.specs.Regions.{box_of, positions};
+ghost use Rattle.zarrs.specs.Arrays.{layout_of_array};
+ghost use Rattle.zarrs_directory.specs.Directory.{directory_of};
+ghost use Rattle.zarr_commands.specs.Cells.{WritesBytes, WritesLines};
+
 use std::alloc::Global;
 use std::fs;
 use std::io::{self, BufWriter, Write};
 use zarr_arrays::{Bands, Opened, Refusal, open};
 use zarr_cells::{
-    form_of, npy, raw_size, write_cells as write_cells_as_text, write_raw, write_texts,
+    Rows, form_of, npy, raw_size, write_cells as write_cells_as_text, write_raw, write_texts,
 };
 use zarrs::{ArrayBytes, ArraySubset};
 
@@ -29,25 +35,70 @@ pub(crate) fn no_text(alloc: Global) -> Refusal {
     Refusal::said(alloc, "cells of this data type have no text: see --raw")
 }
 
-/// Writes the cells of a band as lines of so many, from the column on. Returns the column behind them.
-fn write_lines<W: Write>(
+/// Writes the cells of a band as lines, from the column on. Returns the column behind them.
+#[tactic(auto, using(crate::proofs::CellsLemmas::cells_one))]
+fn write_band_lines<W: Write>(
     alloc: Global,
     out: &mut W,
-    opened: &Opened<'_>,
-    width: u64,
+    opened: &mut Opened<'_>,
+    rows: &Rows,
     column: u64,
-    cells: &ArrayBytes<'_>,
-) -> Result<u64, Refusal> {
-    match (cells, opened.rows(width)) {
-        (ArrayBytes::Fixed(bytes), Some(rows)) => {
-            Ok(write_cells_as_text(out, &rows, column, bytes.as_slice())?)
-        }
-        (ArrayBytes::Variable(texts), _) => Ok(write_texts(alloc, out, texts, column, width)?),
+    band: &ArraySubset,
+) -> Result<u64, Refusal>
+    ensures written { IfOk result (λ after. WritesLines (layout_of_array opened.old.array)
+        (directory_of opened.old.store) rows.now.form rows.now.size rows.now.width column after
+        (positions (box_of band.now)) (W.contents out.old) (W.contents out.new)) }
+    ensures array { opened.new.array ≡ opened.old.array }
+    ensures directory { OnOk result (directory_of opened.new.store ≡ directory_of opened.old.store) }
+{
+    match opened.cells(alloc, band)? {
+        ArrayBytes::Fixed(bytes) => Ok(write_cells_as_text(out, rows, column, bytes.as_slice())?),
         _ => Err(no_text(alloc)),
     }
 }
 
 /// Writes the cells of the region as lines, in row-major order and band by band.
+fn write_lines<W: Write>(
+    alloc: Global,
+    out: &mut W,
+    opened: &mut Opened<'_>,
+    rows: &Rows,
+    region: ArraySubset,
+) -> Result<u64, Refusal>
+    ensures { IfOk result (λ after. WritesLines (layout_of_array opened.old.array)
+        (directory_of opened.old.store) rows.now.form rows.now.size rows.now.width 0 after
+        (positions (box_of region)) (W.contents out.old) (W.contents out.new)) }
+{
+    let mut column = 0;
+    let mut bands = Bands::of(region);
+    while let Some(band) = bands.next(alloc, &opened.array)? {
+        column = write_band_lines(alloc, out, opened, rows, column, &band)?;
+    }
+    Ok(column)
+}
+
+/// Writes the texts of the region as lines of so many, in row-major order and band by band.
+fn write_text_lines<W: Write>(
+    alloc: Global,
+    out: &mut W,
+    opened: &mut Opened<'_>,
+    width: u64,
+    region: ArraySubset,
+) -> Result<(), Refusal> {
+    let mut column = 0;
+    let mut bands = Bands::of(region);
+    while let Some(band) = bands.next(alloc, &opened.array)? {
+        match opened.cells(alloc, &band)? {
+            ArrayBytes::Variable(texts) => {
+                column = write_texts(alloc, out, &texts, column, width)?;
+            }
+            _ => return Err(no_text(alloc)),
+        }
+    }
+    Ok(())
+}
+
+/// Writes the cells of the region as lines.
 fn write_text<W: Write>(
     alloc: Global,
     out: &mut W,
@@ -55,12 +106,31 @@ fn write_text<W: Write>(
     region: ArraySubset,
 ) -> Result<(), Refusal> {
     let width = line_width(&region);
-    let mut column = 0;
-    let mut bands = Bands::of(region);
-    while let Some(band) = bands.next(alloc, &opened.array)? {
-        let cells = opened.cells(alloc, &band)?;
-        column = write_lines(alloc, out, opened, width, column, &cells)?;
+    match opened.rows(width) {
+        Some(rows) => {
+            let _column = write_lines(alloc, out, opened, &rows, region)?;
+            Ok(())
+        }
+        None => write_text_lines(alloc, out, opened, width, region),
     }
+}
+
+/// Writes the bytes of the cells of a band.
+#[tactic(auto, using(crate::proofs::CellsLemmas::cells_one))]
+fn write_band_bytes<W: Write>(
+    alloc: Global,
+    out: &mut W,
+    opened: &mut Opened<'_>,
+    band: &ArraySubset,
+) -> Result<(), Refusal>
+    ensures written { OnOk result (WritesBytes (layout_of_array opened.old.array)
+        (directory_of opened.old.store) (positions (box_of band.now))
+        (W.contents out.old) (W.contents out.new)) }
+    ensures array { opened.new.array ≡ opened.old.array }
+    ensures directory { OnOk result (directory_of opened.new.store ≡ directory_of opened.old.store) }
+{
+    let cells = opened.cells(alloc, band)?;
+    write_raw(alloc, out, &cells)?;
     Ok(())
 }
 
@@ -70,11 +140,14 @@ fn write_bytes<W: Write>(
     out: &mut W,
     opened: &mut Opened<'_>,
     region: ArraySubset,
-) -> Result<(), Refusal> {
+) -> Result<(), Refusal>
+    ensures { OnOk result (WritesBytes (layout_of_array opened.old.array)
+        (directory_of opened.old.store) (positions (box_of region))
+        (W.contents out.old) (W.contents out.new)) }
+{
     let mut bands = Bands::of(region);
     while let Some(band) = bands.next(alloc, &opened.array)? {
-        let cells = opened.cells(alloc, &band)?;
-        write_raw(alloc, out, &cells)?;
+        write_band_bytes(alloc, out, opened, &band)?;
     }
     Ok(())
 }

@@ -1,4 +1,4 @@
-use Rattle.std.proofs.Common.{sym, subst, ap, ◌∙◌}
+use Rattle.std.proofs.Common.{refl, sym, subst, ap, ◌∙◌}
 use Rattle.std.specs.Prelude.{Some, Contains}
 use Rattle.zarrs_subset.specs.Regions.{Box, box_of, positions}
 use Rattle.zarrs_subset.specs.Walks.{positions_left}
@@ -10,19 +10,26 @@ use Rattle.zarr_arrays.proofs.reading.read_chunks.Goals as goal
 pub loop-indices-init : goal.loop-indices-init
 loop-indices-init c =
     let all = positions (box_of c.in_ok-chunks.chunks) in
-    subst (λ it. Each (HasRead (layout_of_array c.args.array.now) c.args.store.now) all (positions_left it)) (sym c.into_iter-indices-iterator.ensures.into_iter_gives)
-    (subst (Each (HasRead (layout_of_array c.args.array.now) c.args.store.now) all) (sym c.indices-indices-items.ensures) (each_none (HasRead (layout_of_array c.args.array.now) c.args.store.now) all))
+    record {
+      each =
+          subst (λ it. Each (HasRead (layout_of_array c.args.array.now) c.args.store.now) all (positions_left it)) (sym c.into_iter-indices-iterator.ensures.into_iter_gives)
+          (subst (Each (HasRead (layout_of_array c.args.array.now) c.args.store.now) all) (sym c.indices-indices-items.ensures) (each_none (HasRead (layout_of_array c.args.array.now) c.args.store.now) all));
+      directory = refl;
+    }
 
 pub loop-indices-preserved : goal.loop-indices-preserved
-loop-indices-preserved c =
-    each_more (HasRead (layout_of_array c.args.array.now) c.loop-indices.store) (HasRead (layout_of_array c.args.array.now) c.read_chunk.new.store) (positions (box_of c.in_ok-chunks.chunks))
-    (positions_left c.loop-indices.indices-iterator) (positions_left c.next.new.self) c.in_ok-indices.indices.items
-    (yielded c.loop-indices.indices-iterator c.next.new.self c.next.result c.in_ok-indices.indices c.next.ensures.steps (c.in-Some.is ∙ ap Some c.in_ok-indices.was))
-    (subst (HasRead (layout_of_array c.args.array.now) c.read_chunk.new.store) c.deref.ensures.value c.in_ok-read_chunk.ensures.read)
-    c.in_ok-read_chunk.ensures.kept c.loop-indices.invariant
+loop-indices-preserved c = record {
+  each =
+      each_more (HasRead (layout_of_array c.args.array.now) c.loop-indices.store) (HasRead (layout_of_array c.args.array.now) c.read_chunk.new.store) (positions (box_of c.in_ok-chunks.chunks))
+      (positions_left c.loop-indices.indices-iterator) (positions_left c.next.new.self) c.in_ok-indices.indices.items
+      (yielded c.loop-indices.indices-iterator c.next.new.self c.next.result c.in_ok-indices.indices c.next.ensures.steps (c.in-Some.is ∙ ap Some c.in_ok-indices.was))
+      (subst (HasRead (layout_of_array c.args.array.now) c.read_chunk.new.store) c.deref.ensures.value c.in_ok-read_chunk.ensures.read)
+      c.in_ok-read_chunk.ensures.kept.chunks c.loop-indices.invariant.each;
+  directory = c.in_ok-read_chunk.ensures.kept.directory ∙ c.loop-indices.invariant.directory;
+}
 
-pub returns : goal.returns
-returns c = λ index among.
+pub returns-clause-ask : goal.returns-clause-ask
+returns-clause-ask c = λ index among.
     each_all (HasRead (layout_of_array c.args.array.now) c.loop-indices.store) (positions (box_of c.in_ok-chunks.chunks)) (positions_left c.loop-indices.indices-iterator)
-    (ended c.loop-indices.indices-iterator c.next.new.self c.next.result c.next.ensures.steps c.in-None.is) c.loop-indices.invariant index
+    (ended c.loop-indices.indices-iterator c.next.new.self c.next.result c.next.ensures.steps c.in-None.is) c.loop-indices.invariant.each index
     (subst (λ (b : Box). Contains (positions b) index) (sym c.in_ok-chunks.ensures) among)

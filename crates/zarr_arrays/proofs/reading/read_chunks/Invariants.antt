@@ -1,9 +1,14 @@
+use Rattle.std.proofs.Common.{◌≡◌}
 use Rattle.zarrs_subset.specs.Regions.{box_of, positions}
 use Rattle.zarrs_subset.specs.Walks.{positions_left}
 use Rattle.zarrs.specs.Arrays.{layout_of_array}
+use Rattle.zarrs_directory.specs.Directory.{directory_of}
 use Rattle.zarr_arrays.specs.Reading.{HasRead}
 use Rattle.zarr_arrays.proofs.Asked.{Each}
 use Rattle.zarr_arrays.proofs.reading.read_chunks.Given as goal
 
 abbrev pub invariant-loop-indices : goal.invariant-loop-indices
-invariant-loop-indices l = Each (HasRead (layout_of_array l.array) l.store) (positions (box_of l.chunks)) (positions_left l.indices-iterator)
+invariant-loop-indices l = record {
+  each : Each (HasRead (layout_of_array l.array) l.store) (positions (box_of l.chunks)) (positions_left l.indices-iterator);
+  directory : directory_of l.store ≡ directory_of l.initial.store;
+}
