@@ -18,7 +18,9 @@ use Rattle.zarrs.specs.Arrays.{layout_of_array, store_of_array}
 use Rattle.zarrs.specs.Outcomes.{MayRetrieveRegion, MayStoreRegion, MayRetrieveChunk}
 use Rattle.zarrs.specs.declared.array.Array.{Array}
 use Rattle.zarrs_directory.specs.Directory.{directory_state, was_read, ReadsKey}
-use Rattle.zarr_arrays.specs.Reading.{HasRead, HasReadPart, KeepsRead}
+use Rattle.zarrs_data_type.specs.ArrayData.{ArrayData}
+use Rattle.zarrs_engine_calls.specs.Reads.{ReadsRegion}
+use Rattle.zarr_arrays.specs.Reading.{HasRead, HasReadPart, KeepsRead, ReadsCells}
 use Rattle.zarrs_chunk_grid.specs.Grids.{box_at}
 use Rattle.zarrs_directory.specs.declared.store.DirectoryStore.{DirectoryStore}
 
@@ -108,10 +110,19 @@ module _ {R S : Type 0} (state : S → StoreState) (array : Array S) (other : Ar
       (λ index among part. record { key = (asked index among part).key; places = (asked index among part).places }))
 
   -- a chunk that was read
-  pub chunk_reads : (store : MutBor (DirectoryStore R)) (index key : List ℕ) → layout_of_array array ≡ layout_of_array other
-      → store_of_array state array ≡ lent_state directory_state store → key ≡ (layout_of_array other).key index → was_read store.now key ≡ true
-      → MayRetrieveChunk state index array
-  chunk_reads store index key same_layout same_store is_key read =
+  pub chunk_reads : (store : MutBor (DirectoryStore R)) (index : List ℕ) → layout_of_array array ≡ layout_of_array other
+      → store_of_array state array ≡ lent_state directory_state store → HasRead (layout_of_array other) store.now index → MayRetrieveChunk state index array
+  chunk_reads store index same_layout same_store asked =
       subst (λ (l : Layout). MayAskChunk l index (store_of_array state array)) (sym same_layout)
       (subst (λ (s : StoreState). MayAskChunk (layout_of_array other) index s) (sym same_store)
-      (record { key = λ long. subst (λ (k : List ℕ). was_read store.now k ≡ true) is_key read; places = λ long value place at below. refl }))
+      (record { key = asked.key; places = asked.places }))
+
+  -- the cells of a region that were read
+  pub cells_read : (store : DirectoryStore R) (region : Box) (held data : ArrayData) → layout_of_array array ≡ layout_of_array other
+      → store_of_array state array ≡ directory_state store → data ≡ held
+      → ReadsRegion (layout_of_array array) region (chunks_met (layout_of_array array).grid region) held (store_of_array state array)
+      → ReadsCells (layout_of_array other) region store data
+  cells_read store region held data same_layout same_store same reads =
+      subst (λ (d : ArrayData). ReadsCells (layout_of_array other) region store d) (sym same)
+      (subst (λ (s : StoreState). ReadsRegion (layout_of_array other) region (chunks_met (layout_of_array other).grid region) held s) same_store
+      (subst (λ (l : Layout). ReadsRegion l region (chunks_met l.grid region) held (store_of_array state array)) same_layout reads))

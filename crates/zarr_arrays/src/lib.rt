@@ -6,6 +6,7 @@
 #![tactic(auto)]
 
 mod bands;
+mod calls;
 mod chunks;
 mod opened;
 mod reading;

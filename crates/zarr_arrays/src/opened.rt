@@ -6,7 +6,8 @@ ghost use Rattle.zarrs.specs.Arrays.{layout_of_array};
 ghost use Rattle.zarrs_directory.specs.Directory.{directory_of};
 ghost use Rattle.zarr_arrays.specs.Reading.{ReadsCells};
 
-use crate::reading::{outside, read_chunk, read_chunks, read_parts, reading, writing};
+use crate::calls::{compact_chunk, retrieve_cells, store_cells, upgrade};
+use crate::reading::{outside, read_chunk, read_chunks, read_parts};
 use crate::refusals::Refusal;
 use std::alloc::Global;
 use std::fs;
@@ -155,7 +156,6 @@ impl<'r> Opened<'r> {
     ///
     /// # Errors
     /// E1 for a position that no chunk covers; E7 for a file that cannot be read; those of `Array::retrieve_array_subset`.
-    #[tactic(auto, using(crate::proofs::Asked::region_reads))]
     pub fn cells(
         &mut self,
         alloc: Global,
@@ -168,9 +168,7 @@ impl<'r> Opened<'r> {
     {
         self.store.forget();
         read_chunks(&self.array, &mut self.store, alloc, region)?;
-        let array = reading(&self.array, alloc, &self.store)?;
-        let cells: ArrayBytes<'static> = array.retrieve_array_subset(alloc, region)?;
-        Ok(cells)
+        retrieve_cells(&self.array, alloc, &self.store, region)
     }
 
     /// Stores the cells of the region. The chunks that it does not cover are read first.
@@ -178,7 +176,6 @@ impl<'r> Opened<'r> {
     /// # Errors
     /// E1 for a position that no chunk covers; E7 for a file that cannot be read or written; those of
     /// `Array::store_array_subset`.
-    #[tactic(auto, using(crate::proofs::Asked::region_stores))]
     pub fn store_cells(
         &mut self,
         alloc: Global,
@@ -188,26 +185,20 @@ impl<'r> Opened<'r> {
         self.store.forget();
         read_parts(&self.array, &mut self.store, alloc, region)?;
         let options = self.options();
-        let mut array = writing(&self.array, alloc, &mut self.store)?;
-        array.store_array_subset_opt(alloc, region, cells, &options)?;
-        Ok(())
+        store_cells(&self.array, alloc, &mut self.store, region, cells, &options)
     }
 
     /// Compacts the chunk with these indices, of which there is one for each dimension. Returns whether it was not compact.
     ///
     /// # Errors
     /// E7 for a file that cannot be read or written; those of `Array::compact_chunk`.
-    #[tactic(auto, using(crate::proofs::Asked::chunk_reads))]
     pub fn compact_chunk(&mut self, alloc: Global, indices: &[u64]) -> Result<bool, Refusal> {
         self.store.forget();
         if indices.len() != self.array.dimensionality() {
             return Ok(false);
         }
-        let key = self.array.chunk_key(alloc, indices)?;
-        self.store.read(alloc, &key)?;
-        let mut array = writing(&self.array, alloc, &mut self.store)?;
-        let is_new = array.compact_chunk(alloc, indices, &CodecOptions::default())?;
-        Ok(is_new)
+        read_chunk(&self.array, &mut self.store, alloc, indices)?;
+        compact_chunk(&self.array, alloc, &mut self.store, indices)
     }
 
     /// Makes the V2 document of the array a V3 one.
@@ -216,8 +207,6 @@ impl<'r> Opened<'r> {
     /// A document that is not seen as it is; E7 for a file that cannot be written; E9.
     pub fn upgrade(&mut self, alloc: Global) -> Result<(), Refusal> {
         self.need_clear(alloc)?;
-        let mut array = writing(&self.array, alloc, &mut self.store)?;
-        array.upgrade_metadata(alloc)?;
-        Ok(())
+        upgrade(&self.array, alloc, &mut self.store)
     }
 }

@@ -1,19 +1,17 @@
 //! The chunks of a region, read before a call asks for them.
 ghost use Rattle.std.specs.Prelude.{◌≡◌, IfOk, OnOk, IsTrue};
-ghost use Rattle.zarrs_storage.specs.Wrappers.{lent_state};
 ghost use Rattle.zarrs_subset.specs.Regions.{box_of};
 ghost use Rattle.zarrs_chunk_grid.specs.Grids.{met};
 ghost use Rattle.zarrs_engine_calls.specs.ChunkBoxes.{CoversBox, chunks_met};
 ghost use Rattle.zarrs_engine_calls.specs.Reach.{MayAskChunks, MayAskParts};
-ghost use Rattle.zarrs.specs.Arrays.{layout_of_array, store_of_array};
+ghost use Rattle.zarrs.specs.Arrays.{layout_of_array};
 ghost use Rattle.zarrs_directory.specs.Directory.{directory_of, directory_state};
 ghost use Rattle.zarr_arrays.specs.Reading.{HasRead, HasReadPart, KeepsRead};
 
 use crate::opened::Store;
 use crate::refusals::Refusal;
 use std::alloc::Global;
-use zarrs::{Array, ArraySubset, Lent, ReadOnly, ReadableStorageTraits};
-use zarrs_directory::DirectoryStore;
+use zarrs::{Array, ArraySubset};
 use zarrs_subset::lies_in_box;
 
 /// Returns the refusal E1 of the region.
@@ -126,32 +124,4 @@ pub(crate) fn read_parts(
         read_part(array, store, alloc, region, &indices)?;
     }
     Ok(())
-}
-
-/// Returns the array over the store, which is lent to be read.
-pub(crate) fn reading<'s, 'r>(
-    array: &Array<()>,
-    alloc: Global,
-    store: &'s Store<'r>,
-) -> Result<Array<ReadOnly<'s, Store<'r>>>, Refusal>
-    ensures layout { IfOk result (λ a. layout_of_array a ≡ layout_of_array array.now) }
-    ensures store { IfOk result (λ a.
-        store_of_array ⟦<ReadOnly<'s, DirectoryStore<'r, HostRuntime>> as ReadableStorageTraits>⟧.state a
-        ≡ directory_state store.now) }
-{
-    Ok(array.with_storage(alloc, ReadOnly::new(store))?)
-}
-
-/// Returns the array over the store, which is lent to be written.
-pub(crate) fn writing<'s, 'r>(
-    array: &Array<()>,
-    alloc: Global,
-    store: &'s mut Store<'r>,
-) -> Result<Array<Lent<'s, Store<'r>>>, Refusal>
-    ensures layout { IfOk result (λ a. layout_of_array a ≡ layout_of_array array.now) }
-    ensures store { IfOk result (λ a.
-        store_of_array ⟦<Lent<'s, DirectoryStore<'r, HostRuntime>> as ReadableStorageTraits>⟧.state a
-        ≡ lent_state directory_state store.entry) }
-{
-    Ok(array.with_storage(alloc, Lent::new(store))?)
 }

@@ -13,6 +13,7 @@ mod reencode;
 mod resize;
 mod run;
 mod session;
+mod words;
 mod write;
 
 pub use run::run;

@@ -36,11 +36,7 @@ fn tell(alloc: Global, builder: &mut ArrayBuilder, changes: Changes<'_>) -> Resu
 }
 
 /// Returns the array of the same cells with other chunks, shards or byte order, without a store.
-fn changed(
-    alloc: Global,
-    source: &Array<()>,
-    changes: Changes<'_>,
-) -> Result<Array<()>, Refusal> {
+fn changed(alloc: Global, source: &Array<()>, changes: Changes<'_>) -> Result<Array<()>, Refusal> {
     let mut builder = source.builder(alloc)?;
     tell(alloc, &mut builder, changes)?;
     Ok(builder.build(alloc, (), "/")?)

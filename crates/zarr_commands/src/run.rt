@@ -3,9 +3,10 @@ use crate::create::Design;
 use crate::read::Layout;
 use crate::reencode::Changes;
 use crate::session::session;
+use crate::words::{given, program};
 use crate::{check, create, diff, info, read, reencode, resize, write};
-use clap::{Arg, ArgAction, ArgMatches, Command};
-use std::alloc::{AllocError, Global};
+use clap::ArgMatches;
+use std::alloc::Global;
 use zarr_arrays::Refusal;
 use zarr_cells::{numbers, region};
 use zarrs::ArraySubset;
@@ -17,96 +18,6 @@ pub(crate) enum Outcome {
     Done(bool),
     /// It was refused, for this reason.
     Refused(String),
-}
-
-fn word<'a>(alloc: Global, id: &'a str) -> Arg<'a> {
-    Arg::new(alloc, id).required(true).action(ArgAction::Set)
-}
-
-fn maybe<'a>(alloc: Global, id: &'a str) -> Arg<'a> {
-    Arg::new(alloc, id).action(ArgAction::Set)
-}
-
-fn option<'a>(alloc: Global, id: &'a str) -> Arg<'a> {
-    Arg::new(alloc, id).long(id).action(ArgAction::Set)
-}
-
-fn flag<'a>(alloc: Global, id: &'a str) -> Arg<'a> {
-    Arg::new(alloc, id).long(id).action(ArgAction::SetTrue)
-}
-
-/// Returns a command on the array of a directory.
-fn of_dir(
-    alloc: Global,
-    name: &'static str,
-    about: &'static str,
-) -> Result<Command<'static>, AllocError> {
-    Command::new(alloc, name)
-        .about(about)
-        .arg(word(alloc, "dir"))
-}
-
-/// Returns a command on a region, whose cells are in a file or a standard stream.
-fn of_region(
-    alloc: Global,
-    name: &'static str,
-    about: &'static str,
-    file: &'static str,
-) -> Result<Command<'static>, AllocError> {
-    of_dir(alloc, name, about)?
-        .arg(maybe(alloc, "start"))?
-        .arg(maybe(alloc, "shape"))?
-        .arg(flag(alloc, "raw"))?
-        .arg(flag(alloc, "npy"))?
-        .arg(option(alloc, file))
-}
-
-fn create_command(alloc: Global) -> Result<Command<'static>, AllocError> {
-    of_dir(alloc, "create", "makes an array")?
-        .arg(option(alloc, "shape").required(true))?
-        .arg(option(alloc, "chunks").required(true))?
-        .arg(option(alloc, "type").required(true))?
-        .arg(option(alloc, "fill").allow_hyphen_values(true))?
-        .arg(option(alloc, "shard"))?
-        .arg(option(alloc, "separator"))?
-        .arg(flag(alloc, "v2"))
-}
-
-fn reencode_command(alloc: Global) -> Result<Command<'static>, AllocError> {
-    of_dir(
-        alloc,
-        "reencode",
-        "makes an array of the same cells in other chunks",
-    )?
-    .arg(word(alloc, "to"))?
-    .arg(option(alloc, "chunks"))?
-    .arg(option(alloc, "shard"))?
-    .arg(option(alloc, "endian"))
-}
-
-fn command(alloc: Global) -> Result<Command<'static>, AllocError> {
-    let info = of_dir(alloc, "info", "says what the arrays in a directory are")?;
-    let resize = of_dir(alloc, "resize", "changes the shape of an array")?;
-    let diff = of_dir(alloc, "diff", "compares the cells of two arrays")?;
-    let session = Command::new(alloc, "do").about("runs the commands of files, one a line");
-    Command::new(alloc, "zarr")
-        .about("Zarr arrays in directories. Floats are seen as their bits, and shown as numbers.")
-        .subcommand_required(true)
-        .subcommand(info.arg(flag(alloc, "json"))?)?
-        .subcommand(of_region(alloc, "get", "writes cells", "to")?)?
-        .subcommand(of_region(alloc, "put", "stores cells", "from")?)?
-        .subcommand(create_command(alloc)?)?
-        .subcommand(resize.arg(word(alloc, "shape"))?)?
-        .subcommand(of_dir(alloc, "upgrade", "makes a V2 array a V3 array")?)?
-        .subcommand(of_dir(alloc, "compact", "compacts the shards of an array")?)?
-        .subcommand(reencode_command(alloc)?)?
-        .subcommand(of_dir(alloc, "check", "reads each chunk of an array")?)?
-        .subcommand(diff.arg(word(alloc, "to"))?)?
-        .subcommand(session.arg(word(alloc, "file"))?)
-}
-
-fn given<'a>(matches: &ArgMatches<'a>, id: &str) -> &'a str {
-    matches.get_str(id).unwrap_or("")
 }
 
 fn region_given(alloc: Global, matches: &ArgMatches<'_>) -> Result<Option<ArraySubset>, Refusal> {
@@ -206,8 +117,8 @@ fn answer(rt: &HostRuntime, name: &str, matches: &ArgMatches<'_>) -> Result<bool
 /// Runs the words of a command line, but no session. An error is one of the standard streams, or of memory.
 pub(crate) fn run_words(rt: &HostRuntime, words: &[String]) -> Result<Outcome, Refusal> {
     let alloc = rt.alloc();
-    let command = command(alloc)?;
-    let matches = match command.try_get_matches_from(words) {
+    let program = program(alloc)?;
+    let matches = match program.try_get_matches_from(words) {
         Ok(matches) => matches,
         Err(error) if error.use_stderr() => {
             return Ok(Outcome::Refused(format!(in alloc; "{error}")?));

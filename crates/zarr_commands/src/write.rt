@@ -88,7 +88,10 @@ fn store_bytes<R: Read>(
 
 /// Returns the refusal of input that is left over.
 fn more_input(alloc: Global) -> Refusal {
-    Refusal::said(alloc, "there is more input than the region has cells; the region is stored")
+    Refusal::said(
+        alloc,
+        "there is more input than the region has cells; the region is stored",
+    )
 }
 
 /// Stores lines into the region, and asks that nothing but blanks is left.
