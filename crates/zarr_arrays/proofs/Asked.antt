@@ -1,6 +1,6 @@
 -- What holds of each of the chunks that a loop has gone over, and what a call may ask then.
 use Rattle.std.proofs.Common.{◌≡◌, ℕ, List, [], ◌∷◌, ◌++◌, ◌<◌, length, true, refl, sym, subst, ap, ◌∙◌, inl, inr, arith}
-use Rattle.std.specs.Prelude.{Contains, Option, Some, None, Result, Ok}
+use Rattle.std.specs.Prelude.{Contains, Option, Some, None, Result, Ok, IfOk}
 use Rattle.std.specs.declared.alloc.AllocError.{AllocError}
 use Rattle.smallvec.specs.SmallVec.{SmallVec}
 use Rattle.zarrs_subset.specs.declared.indices.Indices.{Indices}
@@ -12,15 +12,10 @@ use Rattle.zarrs_storage.specs.Store.{StoreState}
 use Rattle.zarrs_engine_calls.specs.Layout.{Layout}
 use Rattle.zarrs_engine_calls.specs.ChunkBoxes.{CoversBox, chunks_met}
 use Rattle.zarrs_engine_calls.specs.Reach.{MayAskChunk, MayAskChunks, MayAskParts, MayReadParts}
-use Rattle.std.specs.Borrow.{MutBor}
-use Rattle.zarrs_storage.specs.Wrappers.{lent_state}
-use Rattle.zarrs.specs.Arrays.{layout_of_array, store_of_array}
-use Rattle.zarrs.specs.Outcomes.{MayRetrieveRegion, MayStoreRegion, MayRetrieveChunk}
-use Rattle.zarrs.specs.declared.array.Array.{Array}
 use Rattle.zarrs_directory.specs.Directory.{directory_state, was_read, ReadsKey}
 use Rattle.zarrs_data_type.specs.ArrayData.{ArrayData}
 use Rattle.zarrs_engine_calls.specs.Reads.{ReadsRegion}
-use Rattle.zarr_arrays.specs.Reading.{HasRead, HasReadPart, KeepsRead, ReadsCells}
+use Rattle.zarr_arrays.specs.Reading.{HasRead, HasReadPart, KeepsRead}
 use Rattle.zarrs_chunk_grid.specs.Grids.{box_at}
 use Rattle.zarrs_directory.specs.declared.store.DirectoryStore.{DirectoryStore}
 
@@ -91,38 +86,32 @@ ended old new item steps is = (subst (λ (i : Option (Result (SmallVec ℕ) Allo
 
 -- ---- calls of arrays over the store of a directory
 
-module _ {R S : Type 0} (state : S → StoreState) (array : Array S) (other : Array (Unit {0})) where
-  -- a region whose chunks were read
-  pub region_reads : (store : DirectoryStore R) (region : Box) → layout_of_array array ≡ layout_of_array other → store_of_array state array ≡ directory_state store
-      → MayAskChunks (layout_of_array other) (chunks_met (layout_of_array other).grid region) (directory_state store) → MayRetrieveRegion state region array
-  region_reads store region same_layout same_store asked = λ covered.
-      subst (λ (l : Layout). MayReadParts l region (chunks_met l.grid region) (store_of_array state array)) (sym same_layout)
-      (subst (λ (s : StoreState). MayReadParts (layout_of_array other) region (chunks_met (layout_of_array other).grid region) s) (sym same_store)
-      (read_parts (layout_of_array other) region (chunks_met (layout_of_array other).grid region) (directory_state store) (λ key place. refl) asked))
+-- what may be asked of the one layout and state may be asked of the other, if they are the same
+module _ (layout other : Layout) (now then : StoreState) where
+  pub chunk_at : (index : List ℕ) → layout ≡ other → now ≡ then → MayAskChunk other index then → MayAskChunk layout index now
+  chunk_at index same_layout same_state asked =
+      subst (λ (l : Layout). MayAskChunk l index now) (sym same_layout) (subst (λ (s : StoreState). MayAskChunk other index s) (sym same_state) asked)
 
-  -- a region of which the chunks that it does not cover were read
-  pub region_stores : (store : MutBor (DirectoryStore R)) (region : Box) → layout_of_array array ≡ layout_of_array other
-      → store_of_array state array ≡ lent_state directory_state store
-      → MayAskParts (layout_of_array other) region (chunks_met (layout_of_array other).grid region) (directory_state store.now) → MayStoreRegion state region array
-  region_stores store region same_layout same_store asked = λ covered.
-      subst (λ (l : Layout). MayAskParts l region (chunks_met l.grid region) (store_of_array state array)) (sym same_layout)
-      (subst (λ (s : StoreState). MayAskParts (layout_of_array other) region (chunks_met (layout_of_array other).grid region) s) (sym same_store)
-      (λ index among part. record { key = (asked index among part).key; places = (asked index among part).places }))
+  pub reads_at : (region : Box) → layout ≡ other → now ≡ then → ReadsAnyPlace then → MayAskChunks other (chunks_met other.grid region) then
+      → MayReadParts layout region (chunks_met layout.grid region) now
+  reads_at region same_layout same_state any asked =
+      subst (λ (l : Layout). MayReadParts l region (chunks_met l.grid region) now) (sym same_layout)
+      (subst (λ (s : StoreState). MayReadParts other region (chunks_met other.grid region) s) (sym same_state)
+      (read_parts other region (chunks_met other.grid region) then any asked))
 
-  -- a chunk that was read
-  pub chunk_reads : (store : MutBor (DirectoryStore R)) (index : List ℕ) → layout_of_array array ≡ layout_of_array other
-      → store_of_array state array ≡ lent_state directory_state store → HasRead (layout_of_array other) store.now index → MayRetrieveChunk state index array
-  chunk_reads store index same_layout same_store asked =
-      subst (λ (l : Layout). MayAskChunk l index (store_of_array state array)) (sym same_layout)
-      (subst (λ (s : StoreState). MayAskChunk (layout_of_array other) index s) (sym same_store)
-      (record { key = asked.key; places = asked.places }))
+  pub parts_at : (region : Box) → layout ≡ other → now ≡ then → MayAskParts other region (chunks_met other.grid region) then
+      → MayAskParts layout region (chunks_met layout.grid region) now
+  parts_at region same_layout same_state asked =
+      subst (λ (l : Layout). MayAskParts l region (chunks_met l.grid region) now) (sym same_layout)
+      (subst (λ (s : StoreState). MayAskParts other region (chunks_met other.grid region) s) (sym same_state) asked)
 
-  -- the cells of a region that were read
-  pub cells_read : (store : DirectoryStore R) (region : Box) (held data : ArrayData) → layout_of_array array ≡ layout_of_array other
-      → store_of_array state array ≡ directory_state store → data ≡ held
-      → ReadsRegion (layout_of_array array) region (chunks_met (layout_of_array array).grid region) held (store_of_array state array)
-      → ReadsCells (layout_of_array other) region store data
-  cells_read store region held data same_layout same_store same reads =
-      subst (λ (d : ArrayData). ReadsCells (layout_of_array other) region store d) (sym same)
-      (subst (λ (s : StoreState). ReadsRegion (layout_of_array other) region (chunks_met (layout_of_array other).grid region) held s) same_store
-      (subst (λ (l : Layout). ReadsRegion l region (chunks_met l.grid region) held (store_of_array state array)) same_layout reads))
+  pub cells_at : (region : Box) (held made : ArrayData) → layout ≡ other → now ≡ then → made ≡ held
+      → ReadsRegion layout region (chunks_met layout.grid region) held now → ReadsRegion other region (chunks_met other.grid region) made then
+  cells_at region held made same_layout same_state same reads =
+      subst (λ (d : ArrayData). ReadsRegion other region (chunks_met other.grid region) d then) (sym same)
+      (subst (λ (s : StoreState). ReadsRegion other region (chunks_met other.grid region) held s) same_state
+      (subst (λ (l : Layout). ReadsRegion l region (chunks_met l.grid region) held now) same_layout reads))
+
+-- what holds if the result is good
+pub ok_holds : {A E : Type 0} (P : A → Type 0) (result : Result A E) (value : A) → result ≡ Ok value → IfOk result P → P value
+ok_holds P result value is holds = subst (λ r. IfOk r P) is holds

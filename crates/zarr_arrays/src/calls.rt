@@ -44,7 +44,6 @@ fn writing<'s, 'r>(
 }
 
 /// Returns the cells of the region, whose chunks were read.
-#[tactic(auto, using(crate::proofs::Asked::region_reads, crate::proofs::Asked::cells_read))]
 pub(crate) fn retrieve_cells(
     array: &Array<()>,
     alloc: Global,
@@ -64,7 +63,6 @@ pub(crate) fn retrieve_cells(
 }
 
 /// Stores the cells of the region. The chunks were read of which it covers a part alone.
-#[tactic(auto, using(crate::proofs::Asked::region_stores))]
 pub(crate) fn store_cells(
     array: &Array<()>,
     alloc: Global,
@@ -84,7 +82,6 @@ pub(crate) fn store_cells(
 }
 
 /// Compacts the chunk with these indices, which was read. Returns whether it was not compact.
-#[tactic(auto, using(crate::proofs::Asked::chunk_reads))]
 pub(crate) fn compact_chunk(
     array: &Array<()>,
     alloc: Global,

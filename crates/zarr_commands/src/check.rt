@@ -1,7 +1,10 @@
 //! `check`.
 use std::alloc::Global;
 use zarr_arrays::{METADATA, Opened, Refusal, is_chunk, open, present_chunks, read_value};
-use zarrs::{ArrayBytes, ArrayError, CodecOptions, FillValue, MemoryStore, WritableStorageTraits};
+use zarrs::{
+    Array, ArrayBytes, ArrayError, Bytes, CodecOptions, FillValue, MemoryStore, StoreKey,
+    WritableStorageTraits,
+};
 use zarrs_directory::{Found, files_below};
 
 /// What was found below a directory.
@@ -42,7 +45,42 @@ fn is_all_fill(fill: &FillValue, cells: &ArrayBytes<'_>) -> bool {
     }
 }
 
-/// Decodes the chunk that the file has, and compacts a copy of it in memory.
+/// Returns the array over a store in memory, which has this value at the key.
+fn copied(
+    array: &Array<()>,
+    alloc: Global,
+    key: &StoreKey,
+    value: Bytes,
+) -> Result<Array<MemoryStore>, Refusal> {
+    let mut memory = MemoryStore::new(alloc);
+    memory.set(alloc, key, value)?;
+    Ok(array.with_storage(alloc, memory)?)
+}
+
+/// Decodes the chunk, and compacts it.
+fn judged(
+    copy: &mut Array<MemoryStore>,
+    alloc: Global,
+    indices: &[u64],
+) -> Result<Option<Verdict>, Refusal> {
+    if indices.len() != copy.dimensionality() {
+        return Ok(None);
+    }
+    match copy.retrieve_chunk::<ArrayBytes<'static>>(alloc, indices) {
+        Ok(cells) => {
+            let is_fill = is_all_fill(copy.fill_value(), &cells);
+            drop(cells);
+            let is_compact = !copy.compact_chunk(alloc, indices, &CodecOptions::default())?;
+            Ok(Some(Verdict::Decodes {
+                is_fill,
+                is_compact,
+            }))
+        }
+        Err(error) => Ok(Some(Verdict::Broken(error))),
+    }
+}
+
+/// Judges a copy in memory of the chunk that the file has.
 fn look_at(
     opened: &mut Opened<'_>,
     alloc: Global,
@@ -56,20 +94,10 @@ fn look_at(
     let Some(value) = read_value(&mut opened.store, alloc, &key)? else {
         return Ok(None);
     };
-    let mut memory = MemoryStore::new(alloc);
-    memory.set(alloc, &key, value)?;
-    let mut copy = opened.array.with_storage(alloc, memory)?;
-    match copy.retrieve_chunk::<ArrayBytes<'static>>(alloc, indices) {
-        Ok(cells) => {
-            let is_fill = is_all_fill(opened.array.fill_value(), &cells);
-            let is_compact = !copy.compact_chunk(alloc, indices, &CodecOptions::default())?;
-            Ok(Some(Verdict::Decodes {
-                is_fill,
-                is_compact,
-            }))
-        }
-        Err(error) => Ok(Some(Verdict::Broken(error))),
-    }
+    let mut copy = copied(&opened.array, alloc, &key, value)?;
+    let verdict = judged(&mut copy, alloc, indices);
+    drop(copy);
+    verdict
 }
 
 impl Counts {

@@ -97,6 +97,18 @@ fn built(alloc: Global, design: &Design<'_>) -> Result<Array<()>, Refusal> {
     Ok(builder.build(alloc, (), "/")?)
 }
 
+/// Stores the document of the array.
+pub(crate) fn store_document(
+    array: &Array<()>,
+    alloc: Global,
+    store: &mut DirectoryStore<'_, HostRuntime>,
+) -> Result<(), Refusal> {
+    let mut array = array.with_storage(alloc, Lent::new(store))?;
+    let outcome = array.store_metadata(alloc);
+    drop(array);
+    Ok(outcome?)
+}
+
 /// Stores the document of a new array, in a directory that has none.
 pub(crate) fn store_new(rt: &HostRuntime, dir: &str, array: &Array<()>) -> Result<(), Refusal> {
     let alloc = rt.alloc();
@@ -108,9 +120,7 @@ pub(crate) fn store_new(rt: &HostRuntime, dir: &str, array: &Array<()>) -> Resul
     }
     fs::create_dir_all(rt, dir)?;
     let mut store = DirectoryStore::new(rt, dir)?;
-    let mut array = array.with_storage(alloc, Lent::new(&mut store))?;
-    array.store_metadata(alloc)?;
-    Ok(())
+    store_document(array, alloc, &mut store)
 }
 
 /// Makes an array without a chunk.

@@ -74,43 +74,55 @@ fn changes_given<'a>(alloc: Global, matches: &ArgMatches<'a>) -> Result<Changes<
     })
 }
 
-/// Runs one command that writes. Returns whether there is such a command.
-fn changed(rt: &HostRuntime, name: &str, matches: &ArgMatches<'_>) -> Result<bool, Refusal> {
-    let alloc = rt.alloc();
-    let dir = given(matches, "dir");
-    match name {
-        "create" => create::create(rt, dir, &design_given(alloc, matches)?)?,
-        "upgrade" => write::upgrade(rt, dir)?,
-        "resize" => resize::resize(rt, dir, numbers(alloc, given(matches, "shape"))?)?,
-        "compact" => write::compact(rt, dir)?,
-        "reencode" => {
-            let changes = changes_given(alloc, matches)?;
-            reencode::reencode(rt, dir, given(matches, "to"), changes)?;
-        }
-        "put" => {
-            let (region, layout) = (region_given(alloc, matches)?, layout_given(alloc, matches)?);
-            write::put(rt, dir, region, layout, matches.get_str("from"))?;
-        }
-        _ => return Ok(false),
-    }
+/// Writes the cells of the region that was given.
+fn get_cells(rt: &HostRuntime, dir: &str, matches: &ArgMatches<'_>) -> Result<bool, Refusal> {
+    let layout = layout_given(rt.alloc(), matches)?;
+    let region = region_given(rt.alloc(), matches)?;
+    read::get(rt, dir, region, layout, matches.get_str("to"))?;
+    Ok(true)
+}
+
+/// Stores cells into the region that was given.
+fn put_cells(rt: &HostRuntime, dir: &str, matches: &ArgMatches<'_>) -> Result<bool, Refusal> {
+    let layout = layout_given(rt.alloc(), matches)?;
+    let region = region_given(rt.alloc(), matches)?;
+    write::put(rt, dir, region, layout, matches.get_str("from"))?;
+    Ok(true)
+}
+
+fn create_array(rt: &HostRuntime, dir: &str, matches: &ArgMatches<'_>) -> Result<bool, Refusal> {
+    let design = design_given(rt.alloc(), matches)?;
+    create::create(rt, dir, &design)?;
+    Ok(true)
+}
+
+fn resize_array(rt: &HostRuntime, dir: &str, matches: &ArgMatches<'_>) -> Result<bool, Refusal> {
+    let shape = numbers(rt.alloc(), given(matches, "shape"))?;
+    resize::resize(rt, dir, &shape)?;
+    Ok(true)
+}
+
+fn reencode_array(rt: &HostRuntime, dir: &str, matches: &ArgMatches<'_>) -> Result<bool, Refusal> {
+    let changes = changes_given(rt.alloc(), matches)?;
+    reencode::reencode(rt, dir, given(matches, "to"), changes)?;
     Ok(true)
 }
 
 /// Runs one command. Returns whether its answer is yes.
 fn answer(rt: &HostRuntime, name: &str, matches: &ArgMatches<'_>) -> Result<bool, Refusal> {
-    let alloc = rt.alloc();
     let dir = given(matches, "dir");
     match name {
         "info" => info::info(rt, dir, matches.get_flag("json")),
+        "get" => get_cells(rt, dir, matches),
+        "put" => put_cells(rt, dir, matches),
+        "create" => create_array(rt, dir, matches),
+        "resize" => resize_array(rt, dir, matches),
+        "upgrade" => write::upgrade(rt, dir),
+        "compact" => write::compact(rt, dir),
+        "reencode" => reencode_array(rt, dir, matches),
         "check" => check::check(rt, dir),
         "diff" => diff::diff(rt, dir, given(matches, "to")),
-        "get" => {
-            let (region, layout) = (region_given(alloc, matches)?, layout_given(alloc, matches)?);
-            read::get(rt, dir, region, layout, matches.get_str("to"))?;
-            Ok(true)
-        }
-        "do" => Err(Refusal::said(alloc, "a session has no session in it")),
-        _ => changed(rt, name, matches),
+        _ => Err(Refusal::said(rt.alloc(), "a session has no session in it")),
     }
 }
 

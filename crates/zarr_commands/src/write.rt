@@ -171,18 +171,19 @@ pub(crate) fn put(
 }
 
 /// Makes the V2 document of the array a V3 one.
-pub(crate) fn upgrade(rt: &HostRuntime, dir: &str) -> Result<(), Refusal> {
+pub(crate) fn upgrade(rt: &HostRuntime, dir: &str) -> Result<bool, Refusal> {
     let mut opened = open(rt, dir)?;
-    opened.upgrade(rt.alloc())
+    opened.upgrade(rt.alloc())?;
+    Ok(true)
 }
 
 /// Compacts each chunk that is there, in row-major order, and says which ones were not compact.
-pub(crate) fn compact(rt: &HostRuntime, dir: &str) -> Result<(), Refusal> {
+pub(crate) fn compact(rt: &HostRuntime, dir: &str) -> Result<bool, Refusal> {
     let mut opened = open(rt, dir)?;
     for chunk in &present_chunks(rt, dir, &opened.array)? {
         if opened.compact_chunk(rt.alloc(), &chunk.indices)? {
             println!(rt; "{}: compacted", chunk.file.key)?;
         }
     }
-    Ok(())
+    Ok(true)
 }

@@ -3,5 +3,5 @@ use Rattle.zarrs_subset.specs.Regions.{box_of}
 use Rattle.zarrs_subset.proofs.WalkLemmas.{positions-empty}
 use Rattle.zarr_arrays.proofs.bands.Bands.of.Goals as goal
 
-pub returns-then-is_empty-region : goal.returns-then-is_empty-region
-returns-then-is_empty-region c = sym (positions-empty (box_of c.args.region) c.args.region.same_length (c.is_empty.ensures.0 c.if-is_empty-region.true))
+pub returns-then-is_empty : goal.returns-then-is_empty
+returns-then-is_empty c = sym (positions-empty (box_of c.args.region) c.args.region.same_length (c.is_empty.ensures.0 c.if-is_empty.true))
