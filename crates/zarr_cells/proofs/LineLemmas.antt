@@ -201,6 +201,10 @@ joined_parts None others cells left is = let no : nothing ≡ Some (cells, left)
 joined_parts (Some one) None cells left is = let no : nothing ≡ Some (cells, left) = is in absurd cc
 joined_parts (Some one) (Some others) cells left is = (one, others.0, refl, ap (λ l. Some (others.0, l)) (ap left_of is), sym (ap cells_of is))
 
+pub appends_none : (held : Option (List ℕ)) → Appends held held []
+appends_none None = tt
+appends_none (Some xs) = sym (append-nil xs)
+
 module _ (form : Form) (size width : ℕ) where
   cells_more : (count column : ℕ) (text cells left cell rest : List ℕ) → cells_in form size width count column text ≡ Some (cells, left)
       → first_cell form size width (column_after width column count) left ≡ Some cell → behind form size width (column_after width column count) left ≡ rest
@@ -227,10 +231,6 @@ module _ (form : Form) (size width : ℕ) where
     pub written : Appends old new text
     pub reads : (more : List ℕ) → cells_in form size width count start (text ++ more) ≡ Some (cells, more)
 
-  appends_none : (held : Option (List ℕ)) → Appends held held []
-  appends_none None = tt
-  appends_none (Some xs) = sym (append-nil xs)
-
   pub written_none : (start : ℕ) (bytes : List ℕ) (held : Option (List ℕ)) → Written start bytes bytes start held held
   written_none start bytes held = record { count = 0; text = []; cells = []; split = refl; column_is = refl; written = appends_none held; reads = λ more. refl }
 
@@ -251,10 +251,17 @@ module _ (form : Form) (size width : ℕ) where
             (subst (λ c. behind form size width c (one.text ++ more) ≡ more) front.column_is (one.reads more).1);
       }
 
-  pub written_all : (start : ℕ) (bytes left : List ℕ) (column : ℕ) (old new : Option (List ℕ)) → Written start bytes left column old new → length left < size
-      → (cells : List ℕ) × (rest : List ℕ) × (cells ++ rest ≡ bytes) × (length rest < size) × WritesCells form size width start cells old new
-  written_all start bytes left column old new front short =
-      (front.cells, left, front.split, short, record { count = front.count; text = front.text; written = front.written; reads = front.reads })
+  pub written_all : (start : ℕ) (bytes left : List ℕ) (column : ℕ) (old new : Option (List ℕ)) → Written start bytes left column old new → left ≡ []
+      → WritesCells form size width start column bytes old new
+  written_all start bytes left column old new front none =
+      let all : front.cells ≡ bytes = sym (append-nil front.cells) ∙ ap (λ l. front.cells ++ l) (sym none) ∙ front.split in
+      record {
+        count = front.count;
+        text = front.text;
+        ends = front.column_is;
+        written = front.written;
+        reads = λ more. subst (λ c. cells_in form size width front.count start (front.text ++ more) ≡ Some (c, more)) all (front.reads more);
+      }
 
   pub reads_none : (start : ℕ) (old : Option (List ℕ)) (before : List ℕ) → ReadsCells form size width 0 start old old before before
   reads_none start None before = tt
@@ -272,4 +279,58 @@ module _ (form : Form) (size width : ℕ) where
             (subst (λ c. first_cell form size width c front.1 ≡ Some there.1.0) column_is there.1.1) (ap (λ c. behind form size width c front.1) (sym column_is)),
         there.0,
         there.1.2 ∙ ap (λ l. l ++ there.1.0) front.4 ∙ append_assoc before front.0 there.1.0,
+      )
+
+  -- ---- cells behind cells
+
+  cells_both : (count more column : ℕ) (text cells left others rest : List ℕ) → cells_in form size width count column text ≡ Some (cells, left)
+      → cells_in form size width more (column_after width column count) left ≡ Some (others, rest)
+      → cells_in form size width (count + more) column text ≡ Some (cells ++ others, rest)
+  cells_both zero more column text cells left others rest first then =
+      let none : [] ≡ cells = ap cells_of first in
+      let all : text ≡ left = ap left_of first in
+      let sum : 0 + more ≡ more = omega arith in
+      ap (λ n. cells_in form size width n column text) sum ∙ ap (cells_in form size width more column) all ∙ then ∙ ap (λ l. Some (l ++ others, rest)) none
+  cells_both (suc count) more column text cells left others rest first then =
+      let parts = joined_parts (first_cell form size width column text) (cells_in form size width count (next width column) (behind form size width column text)) cells left first in
+      let sum : suc count + more ≡ suc (count + more) = omega arith in
+      let longer : cells_in form size width (suc (count + more)) column text ≡ Some (cells ++ others, rest) =
+      rw (parts.2, cells_both count more (next width column) (behind form size width column text) parts.1 left others rest parts.3 then)
+      (ap (λ l. Some (l, rest)) (sym (append_assoc parts.0 parts.1 others) ∙ ap (λ l. l ++ others) (sym parts.4))) in
+      ap (λ n. cells_in form size width n column text) sum ∙ longer
+
+  column_both : (column count more : ℕ) → column_after width column (count + more) ≡ column_after width (column_after width column count) more
+  column_both column zero more = let sum : 0 + more ≡ more = omega arith in ap (column_after width column) sum
+  column_both column (suc count) more =
+      let sum : suc count + more ≡ suc (count + more) = omega arith in ap (column_after width column) sum ∙ column_both (next width column) count more
+
+  pub writes_none : (column : ℕ) (held : Option (List ℕ)) → WritesCells form size width column column [] held held
+  writes_none column held = record { count = 0; text = []; ends = refl; written = appends_none held; reads = λ more. refl }
+
+  pub writes_both : (column middle after : ℕ) (cells others : List ℕ) (old between new : Option (List ℕ)) → WritesCells form size width column middle cells old between
+      → WritesCells form size width middle after others between new → WritesCells form size width column after (cells ++ others) old new
+  writes_both column middle after cells others old between new first then =
+      record {
+        count = first.count + then.count;
+        text = first.text ++ then.text;
+        ends = then.ends ∙ ap (λ c. column_after width c then.count) first.ends ∙ sym (column_both column first.count then.count);
+        written = appends_both old between new first.text then.text first.written then.written;
+        reads = λ more.
+            ap (cells_in form size width (first.count + then.count) column) (append_assoc first.text then.text more)
+            ∙ cells_both first.count then.count column (first.text ++ (then.text ++ more)) cells (then.text ++ more) others more (first.reads (then.text ++ more))
+            (subst (λ c. cells_in form size width then.count c (then.text ++ more) ≡ Some (others, more)) first.ends (then.reads more));
+      }
+
+  pub reads_both : (count more column middle : ℕ) (old between new : Option (List ℕ)) (cells others : List ℕ) → middle ≡ column_after width column count
+      → ReadsCells form size width count column old between [] cells → ReadsCells form size width more middle between new [] others
+      → ReadsCells form size width (count + more) column old new [] (cells ++ others)
+  reads_both count more column middle None between new cells others column_is front one = tt
+  reads_both count more column middle (Some text) between new cells others column_is front one =
+      let there = subst (λ b. ReadsCells form size width more middle b new [] others) front.3 one in (
+        front.0 ++ there.0,
+        there.1,
+        cells_both count more column text front.0 front.1 there.0 there.1 front.2
+            (subst (λ c. cells_in form size width more c front.1 ≡ Some (there.0, there.1)) column_is there.2),
+        there.3,
+        ap (λ l. l ++ others) front.4 ∙ ap (λ l. front.0 ++ l) there.4,
       )

@@ -86,10 +86,12 @@ module _ (form : Form) (size width : ℕ) where
     pub written : Appends old new text
     pub reads : (more : List ℕ) → (first_cell column (text ++ more) ≡ Some cell) × (behind column (text ++ more) ≡ more)
 
-  -- a text of cells from the column on was written: whatever follows, they are read there, and then what follows
-  pub record WritesCells (column : ℕ) (cells : List ℕ) (old new : Option (List ℕ)) : Type 0 where
+  -- a text of cells from the column on was written, up to another column: whatever follows, they are read there, and then
+  -- what follows
+  pub record WritesCells (column after : ℕ) (cells : List ℕ) (old new : Option (List ℕ)) : Type 0 where
     pub count : ℕ
     pub text : List ℕ
+    pub ends : after ≡ column_after width column count
     pub written : Appends old new text
     pub reads : (more : List ℕ) → cells_in count column (text ++ more) ≡ Some (cells, more)
 

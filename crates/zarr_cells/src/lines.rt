@@ -1,8 +1,8 @@
 //! Cells as text: a JSON list for each row, on a line of its own.
-ghost use Rattle.std.specs.Prelude.{◌≡◌, ◌≤◌, ◌<◌, ◌++◌, ℕ, List, length, take, vec_items, MatchOption, OnOk, Some, None};
+ghost use Rattle.std.specs.Prelude.{◌≡◌, ◌≤◌, ◌<◌, ◌++◌, ℕ, List, length, take, vec_items, MatchOption, IfOk, OnOk, Some, None};
 ghost use Rattle.std.specs.Prelude.{if◌then◌else◌};
 ghost use Rattle.std.specs.Io.KnownBytes.{Appends};
-ghost use Rattle.zarr_cells.specs.Lines.{trimmed, unclosed, unopened, word_in, is_first, is_last, next, cell_at, ReadsCell, ReadsCells, WritesCell, WritesCells, opening, closed};
+ghost use Rattle.zarr_cells.specs.Lines.{trimmed, unclosed, unopened, word_in, is_first, is_last, next, column_after, cell_at, ReadsCell, ReadsCells, WritesCell, WritesCells, opening, closed};
 
 use crate::bits::{cell_bits, word_cell, write_bits};
 use crate::error::CellsError;
@@ -65,14 +65,13 @@ fn write_cell<W: Write>(out: &mut W, rows: &Rows, column: u64, cell: &[u8]) -> i
     write_closing(out, rows.is_last(column))
 }
 
-/// Writes cells from the column on: a list for each row, on a line of its own.
+/// Writes cells from the column on: a list for each row, on a line of its own. Returns the column behind them.
 ///
 /// # Errors
-/// `InvalidData` for a cell that no text says, or of more than 8 bytes; what the writer says.
-pub fn write_cells<W: Write>(out: &mut W, rows: &Rows, column: u64, bytes: &[u8]) -> io::Result<()>
-    ensures { OnOk result ((cells : List ℕ) × (left : List ℕ) × (cells ++ left ≡ bytes.now) × (length left < rows.now.size)
-        × WritesCells rows.now.form rows.now.size rows.now.width column cells
-        (W.contents out.old) (W.contents out.new)) }
+/// `InvalidData` for cells of no byte or more than 8, and for bytes behind the last whole cell; what the writer says.
+pub fn write_cells<W: Write>(out: &mut W, rows: &Rows, column: u64, bytes: &[u8]) -> io::Result<u64>
+    ensures { IfOk result (λ after. WritesCells rows.now.form rows.now.size rows.now.width column
+        after bytes.now (W.contents out.old) (W.contents out.new)) }
 {
     if rows.size == 0 || rows.size > 8 {
         return Err(io::Error::from(ErrorKind::InvalidData));
@@ -85,7 +84,10 @@ pub fn write_cells<W: Write>(out: &mut W, rows: &Rows, column: u64, bytes: &[u8]
         column = rows.next(column);
         rest = more;
     }
-    Ok(())
+    if rest.is_empty() {
+        return Ok(column);
+    }
+    Err(io::Error::from(ErrorKind::InvalidData))
 }
 
 /// Returns the text without the blanks that it begins and ends with.
@@ -191,7 +193,8 @@ fn read_cell<R: BufRead>(
     Ok(())
 }
 
-/// Adds so many cells from the column on that the input begins with: a list for each row, on a line of its own.
+/// Adds so many cells from the column on that the input begins with: a list for each row, on a line of its own. Returns
+/// the column behind them.
 ///
 /// # Errors
 /// E5 for what is no cell; fewer cells; what the reader says; out of memory.
@@ -202,8 +205,9 @@ pub fn read_cells<R: BufRead>(
     column: u64,
     count: u64,
     bytes: &mut Vec<u8>,
-) -> Result<(), CellsError>
-    ensures { OnOk result (ReadsCells rows.now.form rows.now.size rows.now.width count column
+) -> Result<u64, CellsError>
+    ensures column { IfOk result (λ after. after ≡ column_after rows.now.width column count) }
+    ensures cells { OnOk result (ReadsCells rows.now.form rows.now.size rows.now.width count column
         (R.remaining input.old) (R.remaining input.new) bytes.old.items bytes.new.items) }
 {
     let mut token = Vec::new(alloc);
@@ -212,5 +216,5 @@ pub fn read_cells<R: BufRead>(
         read_cell(alloc, input, rows, column, &mut token, bytes)?;
         column = rows.next(column);
     }
-    Ok(())
+    Ok(column)
 }

@@ -1,5 +1,5 @@
 //! Regions, cut along their first dimension.
-ghost use Rattle.std.specs.Prelude.{◌≡◌, ◌++◌, ◌∷◌, drop, IfOk, MatchOption};
+ghost use Rattle.std.specs.Prelude.{◌≡◌, ◌≤◌, ◌<◌, ◌++◌, ◌∷◌, drop, slice_index, IfOk, IfSome, MatchOption};
 ghost use Rattle.zarrs_subset.specs.Regions.{box_of, positions};
 
 use crate::error::CellsError;
@@ -30,16 +30,18 @@ pub fn with_rows(
 }
 
 /// Cuts the first rows off the region: returns them, and what is left. The positions of the one, and then those of the
-/// other, are those of the region.
+/// other, are those of the region, and fewer rows are left than it has.
 pub fn split_rows(
     alloc: Global,
     region: &ArraySubset,
     rows: u64,
 ) -> Result<(ArraySubset, Option<ArraySubset>), CellsError>
-    ensures { IfOk result (λ cut. MatchOption cut.1
+    ensures places { IfOk result (λ cut. MatchOption cut.1
         (positions (box_of cut.0) ≡ positions (box_of region.now))
         (λ rest. positions (box_of cut.0) ++ positions (box_of rest)
         ≡ positions (box_of region.now))) }
+    ensures fewer { 1 ≤ rows → IfOk result (λ cut. IfSome cut.1
+        (λ rest. slice_index (box_of rest).shape 0 < slice_index (box_of region.now).shape 0)) }
 {
     if region.dimensionality() > 0 && rows < region.shape()[0] {
         let (first, extent) = (region.start()[0], region.shape()[0]);

@@ -16,7 +16,8 @@ fn write_text<W: Write>(alloc: Global, out: &mut W, text: &[u8]) -> Result<(), C
     Ok(())
 }
 
-/// Writes texts from the column on, in rows of so many: a list for each row, on a line of its own.
+/// Writes texts from the column on, in rows of so many: a list for each row, on a line of its own. Returns the column
+/// behind them.
 ///
 /// # Errors
 /// A cell is no text; what the writer says; out of memory.
@@ -26,7 +27,7 @@ pub fn write_texts<W: Write>(
     texts: &ArrayBytesVariableLength<'_>,
     column: u64,
     width: u64,
-) -> Result<(), CellsError> {
+) -> Result<u64, CellsError> {
     let mut column = column;
     for index in 0..texts.len() {
         if column == 0 {
@@ -41,7 +42,7 @@ pub fn write_texts<W: Write>(
             out.write_all(b",".as_slice())?;
         }
     }
-    Ok(())
+    Ok(column)
 }
 
 /// Reads blanks and a mark up to this byte.
@@ -93,7 +94,7 @@ fn read_quoted<R: BufRead>(input: &mut R, token: &mut Vec<u8>) -> Result<(), Cel
     Ok(())
 }
 
-/// Adds so many texts from the column on, in rows of so many, that the input begins with.
+/// Adds so many texts from the column on, in rows of so many, that the input begins with. Returns the column behind them.
 ///
 /// # Errors
 /// E5 for what is no text; fewer cells; what the reader says; out of memory.
@@ -104,7 +105,7 @@ pub fn read_texts<R: BufRead>(
     width: u64,
     count: u64,
     texts: &mut VariableLengthBuilder,
-) -> Result<(), CellsError> {
+) -> Result<u64, CellsError> {
     let mut token = Vec::new(alloc);
     let mut column = column;
     for _ in 0..count {
@@ -123,5 +124,5 @@ pub fn read_texts<R: BufRead>(
         let closing = if column == 0 { "]" } else { "," };
         read_mark(alloc, input, &mut token, closing.as_bytes())?;
     }
-    Ok(())
+    Ok(column)
 }

@@ -7,6 +7,7 @@ use Rattle.std.specs.BTreeSet.{BTreeSet, contains}
 use Rattle.std.specs.FinMap as map
 use Rattle.zarrs_storage.specs.Store.{StoreState, Values, slash}
 use Rattle.zarrs_storage.specs.Memory.{values_of}
+use Rattle.zarrs_directory.specs.declared.files.Directory.{Directory}
 use Rattle.zarrs_directory.specs.declared.store.DirectoryStore.{DirectoryStore}
 
 -- ---- paths
@@ -52,11 +53,16 @@ directory_state s = record {
   lenders = [];
 }
 
--- A key is read: each other key has the value that it had and may be asked if it might, and no key that might be asked
--- is lost.
+-- the directory whose files are read and written
+abbrev pub directory_of : {R : Type 0} → DirectoryStore R → Directory R
+directory_of s = s.directory
+
+-- A key of the directory is read: each other key has the value that it had and may be asked if it might, and no key that
+-- might be asked is lost.
 pub record ReadsKey {R : Type 0} (old new : DirectoryStore R) (key : List ℕ) : Type 0 where
   pub keys : KeepsKeys old.read new.read key
   pub values : KeepsOtherValues (values_of old.values) (values_of new.values) key
+  pub directory : directory_of new ≡ directory_of old
   pub calls : new.counts.calls ≡ old.counts.calls
   pub failures : new.counts.failures ≡ old.counts.failures
   pub parts : new.counts.parts ≡ old.counts.parts

@@ -4,7 +4,7 @@ ghost use Rattle.std.specs.Prelude.{IfErr, IfOk, OnOk, OnErr, IsErrOf};
 ghost use Rattle.std.specs.FinMap as map;
 ghost use Rattle.zarrs_storage.specs.Store.{Accepts, Refuses, last_call};
 ghost use Rattle.zarrs_storage.specs.Memory.{values_of};
-ghost use Rattle.zarrs_directory.specs.Directory.{directory_state, was_read, ReadsKey};
+ghost use Rattle.zarrs_directory.specs.Directory.{directory_of, directory_state, was_read, ReadsKey};
 
 use crate::counts::WritingCalls;
 use crate::files::Directory;
@@ -134,6 +134,7 @@ impl<'r, R: Files + AllocGlobal> DirectoryStore<'r, R> {
     /// Forgets what was read and written, so that no key may be asked. The counts stay.
     pub fn forget(&mut self)
         ensures asked { (key : List ℕ) → was_read self.new key ≡ false }
+        ensures directory { directory_of self.new ≡ directory_of self.old }
     {
         self.values.clear();
         self.read.clear();

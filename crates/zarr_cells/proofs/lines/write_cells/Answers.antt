@@ -1,4 +1,6 @@
-use Rattle.std.proofs.Common.{subst}
+use Rattle.std.proofs.Common.{◌≡◌, length, subst, arith}
+use Rattle.std.proofs.lemmas.Bool.Decides.{nat_tests}
+use Rattle.std.proofs.lemmas.List.{nil_from_length}
 use Rattle.zarr_cells.specs.Lines.{WritesCell}
 use Rattle.zarr_cells.proofs.LineLemmas.{written_none, written_more, written_all}
 use Rattle.zarr_cells.proofs.lines.write_cells.Goals as goal
@@ -19,8 +21,9 @@ loop-rest-preserved g c =
     written_more rows.form rows.size rows.width c.args.column c.args.bytes.now c.loop-rest.rest.now c.split_at.result.1.now cell c.loop-rest.column c.next-column.result
     (g.W.Write.contents c.args.out.now) between new c.loop-rest.invariant one c.split_at.ensures.by_index.0 c.next-column.ensures
 
-pub returns : goal.returns
-returns g c =
+pub returns-then-is_empty : goal.returns-then-is_empty
+returns-then-is_empty g c =
     let rows = c.args.rows.now in
+    let none : length c.loop-rest.rest.now ≡ 0 = grind (arith, nat_tests) in
     written_all rows.form rows.size rows.width c.args.column c.args.bytes.now c.loop-rest.rest.now c.loop-rest.column (g.W.Write.contents c.args.out.now)
-    (g.W.Write.contents c.loop-rest.out) c.loop-rest.invariant c.loop-rest-test.false
+    (g.W.Write.contents c.loop-rest.out) c.loop-rest.invariant (nil_from_length c.loop-rest.rest.now none)

@@ -3,8 +3,8 @@ use Rattle.zarrs_subset.specs.Regions.{box_of}
 use Rattle.zarr_cells.proofs.RowLemmas.{split_makes}
 use Rattle.zarr_cells.proofs.rows.split_rows.Goals as goal
 
-pub returns-then-rows-shape : goal.returns-then-rows-shape
-returns-then-rows-shape c =
+pub returns-then-rows-shape-clause-places : goal.returns-then-rows-shape-clause-places
+returns-then-rows-shape-clause-places c =
     let region = box_of c.args.region.now in
     let some : 0 < length region.start = omega (arith, c.dimensionality.ensures.count) in
     let shorter : c.args.rows < slice_index c.shape.result.now 0 = omega arith in

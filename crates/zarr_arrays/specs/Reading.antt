@@ -1,0 +1,28 @@
+-- What may be asked of the store of a directory once chunks were read.
+use Rattle.std.specs.Prelude.{◌≡◌, ℕ, List}
+use Rattle.zarrs_subset.specs.Regions.{Box}
+use Rattle.zarrs_data_type.specs.ArrayData.{ArrayData}
+use Rattle.zarrs_engine_calls.specs.Layout.{Layout}
+use Rattle.zarrs_engine_calls.specs.ChunkBoxes.{chunks_met}
+use Rattle.zarrs_engine_calls.specs.Reach.{MayAskChunk}
+use Rattle.zarrs_engine_calls.specs.Reads.{ReadsRegion}
+use Rattle.zarrs_engine_calls.specs.StateRefusals.{IsPart}
+use Rattle.zarrs_directory.specs.Directory.{directory_of, directory_state}
+use Rattle.zarrs_directory.specs.declared.store.DirectoryStore.{DirectoryStore}
+
+-- the chunk may be asked
+abbrev pub HasRead : {R : Type 0} → Layout → DirectoryStore R → List ℕ → Type 0
+HasRead layout store index = MayAskChunk layout index (directory_state store)
+
+-- the chunk may be asked, if the region covers a part of it alone
+abbrev pub HasReadPart : {R : Type 0} → Layout → Box → DirectoryStore R → List ℕ → Type 0
+HasReadPart layout region store index = IsPart layout region index → HasRead layout store index
+
+-- more was read of the directory: each chunk that might be asked may be asked
+pub record KeepsRead {R : Type 0} (layout : Layout) (old new : DirectoryStore R) : Type 0 where
+  pub chunks : (index : List ℕ) → HasRead layout old index → HasRead layout new index
+  pub directory : directory_of new ≡ directory_of old
+
+-- the data is the cells of the region, as the chunks say them that were read of the directory
+abbrev pub ReadsCells : {R : Type 0} → Layout → Box → DirectoryStore R → ArrayData → Type 0
+ReadsCells layout region store held = ReadsRegion layout region (chunks_met layout.grid region) held (directory_state store)

@@ -1,0 +1,110 @@
+//! Calls of an array over the store of its directory, once what they ask for was read.
+ghost use Rattle.std.specs.Prelude.{◌≡◌, length, IfOk};
+ghost use Rattle.zarrs_data_type.specs.ArrayData.{data_of};
+ghost use Rattle.zarrs_subset.specs.Regions.{box_of};
+ghost use Rattle.zarrs_engine_calls.specs.ChunkBoxes.{chunks_met};
+ghost use Rattle.zarrs_engine_calls.specs.Reach.{MayAskChunks, MayAskParts};
+ghost use Rattle.zarrs_storage.specs.Wrappers.{lent_state};
+ghost use Rattle.zarrs.specs.Arrays.{layout_of_array, store_of_array};
+ghost use Rattle.zarrs_directory.specs.Directory.{directory_state};
+ghost use Rattle.zarr_arrays.specs.Reading.{HasRead, ReadsCells};
+
+use crate::opened::Store;
+use crate::refusals::Refusal;
+use std::alloc::Global;
+use zarrs::{Array, ArrayBytes, ArraySubset, CodecOptions, Lent, ReadOnly, ReadableStorageTraits};
+use zarrs_directory::DirectoryStore;
+
+/// Returns the array over the store, which is lent to be read.
+fn reading<'s, 'r>(
+    array: &Array<()>,
+    alloc: Global,
+    store: &'s Store<'r>,
+) -> Result<Array<ReadOnly<'s, Store<'r>>>, Refusal>
+    ensures layout { IfOk result (λ a. layout_of_array a ≡ layout_of_array array.now) }
+    ensures store { IfOk result (λ a.
+        store_of_array ⟦<ReadOnly<'s, DirectoryStore<'r, HostRuntime>> as ReadableStorageTraits>⟧.state a
+        ≡ directory_state store.now) }
+{
+    Ok(array.with_storage(alloc, ReadOnly::new(store))?)
+}
+
+/// Returns the array over the store, which is lent to be written.
+fn writing<'s, 'r>(
+    array: &Array<()>,
+    alloc: Global,
+    store: &'s mut Store<'r>,
+) -> Result<Array<Lent<'s, Store<'r>>>, Refusal>
+    ensures layout { IfOk result (λ a. layout_of_array a ≡ layout_of_array array.now) }
+    ensures store { IfOk result (λ a.
+        store_of_array ⟦<Lent<'s, DirectoryStore<'r, HostRuntime>> as ReadableStorageTraits>⟧.state a
+        ≡ lent_state directory_state store.entry) }
+{
+    Ok(array.with_storage(alloc, Lent::new(store))?)
+}
+
+/// Returns the cells of the region, whose chunks were read.
+pub(crate) fn retrieve_cells(
+    array: &Array<()>,
+    alloc: Global,
+    store: &Store<'_>,
+    region: &ArraySubset,
+) -> Result<ArrayBytes<'static>, Refusal>
+    requires { MayAskChunks (layout_of_array array.now)
+        (chunks_met (layout_of_array array.now).grid (box_of region.now))
+        (directory_state store.now) }
+    ensures { IfOk result (λ cells. ReadsCells (layout_of_array array.now) (box_of region.now)
+        store.now (data_of cells)) }
+{
+    let array = reading(array, alloc, store)?;
+    let cells: Result<ArrayBytes<'static>, _> = array.retrieve_array_subset(alloc, region);
+    drop(array);
+    Ok(cells?)
+}
+
+/// Stores the cells of the region. The chunks were read of which it covers a part alone.
+pub(crate) fn store_cells(
+    array: &Array<()>,
+    alloc: Global,
+    store: &mut Store<'_>,
+    region: &ArraySubset,
+    cells: ArrayBytes<'_>,
+    options: &CodecOptions,
+) -> Result<(), Refusal>
+    requires { MayAskParts (layout_of_array array.now) (box_of region.now)
+        (chunks_met (layout_of_array array.now).grid (box_of region.now))
+        (directory_state store.old) }
+{
+    let mut array = writing(array, alloc, store)?;
+    let outcome = array.store_array_subset_opt(alloc, region, cells, options);
+    drop(array);
+    Ok(outcome?)
+}
+
+/// Compacts the chunk with these indices, which was read. Returns whether it was not compact.
+pub(crate) fn compact_chunk(
+    array: &Array<()>,
+    alloc: Global,
+    store: &mut Store<'_>,
+    indices: &[u64],
+) -> Result<bool, Refusal>
+    requires dimensions { length indices.now ≡ (layout_of_array array.now).grid.dimensions }
+    requires ask { HasRead (layout_of_array array.now) store.old indices.now }
+{
+    let mut array = writing(array, alloc, store)?;
+    let outcome = array.compact_chunk(alloc, indices, &CodecOptions::default());
+    drop(array);
+    Ok(outcome?)
+}
+
+/// Makes the V2 document of the array a V3 one.
+pub(crate) fn upgrade(
+    array: &Array<()>,
+    alloc: Global,
+    store: &mut Store<'_>,
+) -> Result<(), Refusal> {
+    let mut array = writing(array, alloc, store)?;
+    let outcome = array.upgrade_metadata(alloc);
+    drop(array);
+    Ok(outcome?)
+}

@@ -1,0 +1,127 @@
+//! The chunks of a region, read before a call asks for them.
+ghost use Rattle.std.specs.Prelude.{◌≡◌, IfOk, OnOk, IsTrue};
+ghost use Rattle.zarrs_subset.specs.Regions.{box_of};
+ghost use Rattle.zarrs_chunk_grid.specs.Grids.{met};
+ghost use Rattle.zarrs_engine_calls.specs.ChunkBoxes.{CoversBox, chunks_met};
+ghost use Rattle.zarrs_engine_calls.specs.Reach.{MayAskChunks, MayAskParts};
+ghost use Rattle.zarrs.specs.Arrays.{layout_of_array};
+ghost use Rattle.zarrs_directory.specs.Directory.{directory_of, directory_state};
+ghost use Rattle.zarr_arrays.specs.Reading.{HasRead, HasReadPart, KeepsRead};
+
+use crate::opened::Store;
+use crate::refusals::Refusal;
+use std::alloc::Global;
+use zarrs::{Array, ArraySubset};
+use zarrs_subset::lies_in_box;
+
+/// Returns the refusal E1 of the region.
+pub(crate) fn outside(alloc: Global, array: &Array<()>, region: &ArraySubset) -> Refusal {
+    match format!(in alloc;
+        "E1: array subset {region} is not compatible with array shape {:?}",
+        array.shape()
+    ) {
+        Ok(text) => Refusal::Said(text),
+        Err(_) => Refusal::OutOfMemory,
+    }
+}
+
+/// Returns the chunks that the region meets.
+///
+/// # Errors
+/// E1 for a position that no chunk covers, E10 for another number of dimensions.
+fn chunks_of(array: &Array<()>, alloc: Global, region: &ArraySubset) -> Result<ArraySubset, Refusal>
+    ensures { IfOk result (λ chunks. box_of chunks
+        ≡ met (layout_of_array array.now).grid (box_of region.now)) }
+{
+    match array.chunks_in_array_subset(alloc, region)? {
+        Some(chunks) => Ok(chunks),
+        None => Err(outside(alloc, array, region)),
+    }
+}
+
+/// Reads the chunk with these indices. An index list of another length than the array has dimensions names no chunk.
+#[tactic(auto, using(crate::proofs::Asked::chunk_asked, crate::proofs::Asked::other_length, crate::proofs::Asked::keeps_read, crate::proofs::Asked::keeps_same))]
+pub(crate) fn read_chunk(
+    array: &Array<()>,
+    store: &mut Store<'_>,
+    alloc: Global,
+    indices: &[u64],
+) -> Result<(), Refusal>
+    ensures read { OnOk result (HasRead (layout_of_array array.now) store.new indices.now) }
+    ensures kept { OnOk result (KeepsRead (layout_of_array array.now) store.old store.new) }
+{
+    if indices.len() != array.dimensionality() {
+        return Ok(());
+    }
+    let key = array.chunk_key(alloc, indices)?;
+    store.read(alloc, &key)?;
+    Ok(())
+}
+
+/// Reads each chunk that the region meets, so that a read of the region may ask for it.
+pub(crate) fn read_chunks(
+    array: &Array<()>,
+    store: &mut Store<'_>,
+    alloc: Global,
+    region: &ArraySubset,
+) -> Result<(), Refusal>
+    ensures ask { OnOk result (MayAskChunks (layout_of_array array.now)
+        (chunks_met (layout_of_array array.now).grid (box_of region.now))
+        (directory_state store.new)) }
+    ensures directory { OnOk result (directory_of store.new ≡ directory_of store.old) }
+{
+    let chunks = chunks_of(array, alloc, region)?;
+    for indices in chunks.indices(alloc) {
+        let indices = indices?;
+        read_chunk(array, store, alloc, &indices)?;
+    }
+    Ok(())
+}
+
+/// Returns whether the region has each position of the chunk.
+fn covers(region: &ArraySubset, chunk: &ArraySubset) -> bool
+    ensures { IsTrue result → CoversBox (box_of region.now) (box_of chunk.now) }
+{
+    lies_in_box(chunk, region)
+}
+
+/// Reads the chunk with these indices, if the region covers a part of it alone.
+#[tactic(auto, using(crate::proofs::Asked::is_no_part, crate::proofs::Asked::keeps_same))]
+fn read_part(
+    array: &Array<()>,
+    store: &mut Store<'_>,
+    alloc: Global,
+    region: &ArraySubset,
+    indices: &[u64],
+) -> Result<(), Refusal>
+    ensures read { OnOk result
+        (HasReadPart (layout_of_array array.now) (box_of region.now) store.new indices.now) }
+    ensures kept { OnOk result (KeepsRead (layout_of_array array.now) store.old store.new) }
+{
+    let chunk = array.chunk_subset(alloc, indices)?;
+    if covers(region, &chunk) {
+        return Ok(());
+    }
+    read_chunk(array, store, alloc, indices)?;
+    Ok(())
+}
+
+/// Reads each chunk of which the region covers a part alone, so that a store of the region may ask for it.
+pub(crate) fn read_parts(
+    array: &Array<()>,
+    store: &mut Store<'_>,
+    alloc: Global,
+    region: &ArraySubset,
+) -> Result<(), Refusal>
+    ensures ask { OnOk result (MayAskParts (layout_of_array array.now) (box_of region.now)
+        (chunks_met (layout_of_array array.now).grid (box_of region.now))
+        (directory_state store.new)) }
+    ensures directory { OnOk result (directory_of store.new ≡ directory_of store.old) }
+{
+    let chunks = chunks_of(array, alloc, region)?;
+    for indices in chunks.indices(alloc) {
+        let indices = indices?;
+        read_part(array, store, alloc, region, &indices)?;
+    }
+    Ok(())
+}

@@ -1,0 +1,19 @@
+use Rattle.std.proofs.Common.{◌≡◌, List, ℕ, ◌++◌}
+use Rattle.zarrs_subset.specs.Regions.{box_of, positions}
+use Rattle.zarrs.specs.Arrays.{layout_of_array}
+use Rattle.zarrs_directory.specs.Directory.{directory_of}
+use Rattle.zarr_arrays.specs.Bands.{places_left, rows_left}
+use Rattle.zarr_commands.specs.Cells.{WritesBytes}
+use Rattle.zarr_commands.proofs.read.write_bytes.Given as goal
+
+abbrev pub invariant-loop-band : goal.invariant-loop-band
+invariant-loop-band g l = record {
+  done : List (List ℕ);
+  places : done ++ places_left l.bands ≡ positions (box_of l.fn.region);
+  array : l.opened.array ≡ l.initial.opened.array;
+  directory : directory_of l.opened.store ≡ directory_of l.initial.opened.store;
+  written : WritesBytes (layout_of_array l.initial.opened.array) (directory_of l.initial.opened.store) done (g.W.Write.contents l.initial.out) (g.W.Write.contents l.out);
+}
+
+abbrev pub decreases-loop-band : goal.decreases-loop-band
+decreases-loop-band g l = rows_left l.bands

@@ -1,0 +1,5 @@
+use Rattle.zarr_arrays.specs.Bands.{rows_left}
+use Rattle.zarr_commands.proofs.read.write_text_lines.Given as goal
+
+abbrev pub decreases-loop-band : goal.decreases-loop-band
+decreases-loop-band g l = rows_left l.bands

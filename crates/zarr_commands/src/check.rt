@@ -1,0 +1,177 @@
+//! `check`.
+use std::alloc::Global;
+use zarr_arrays::{METADATA, Opened, Refusal, is_chunk, open, present_chunks, read_value};
+use zarrs::{
+    Array, ArrayBytes, ArrayError, Bytes, CodecOptions, FillValue, MemoryStore, StoreKey,
+    WritableStorageTraits,
+};
+use zarrs_directory::{Found, files_below};
+
+/// What was found below a directory.
+#[derive(Debug, Drop)]
+struct Counts {
+    chunks: u64,
+    bytes: u64,
+    all_fill: u64,
+    broken: u64,
+    foreign: u64,
+}
+
+/// What a chunk is.
+#[derive(Debug, Drop)]
+enum Verdict {
+    /// It decodes; whether each cell is fill, and whether its bytes are compact.
+    Decodes { is_fill: bool, is_compact: bool },
+    /// It does not decode.
+    Broken(ArrayError),
+}
+
+/// Returns whether each cell is the fill value.
+fn is_all_fill(fill: &FillValue, cells: &ArrayBytes<'_>) -> bool {
+    let fill = fill.as_bytes();
+    match cells {
+        ArrayBytes::Fixed(bytes) if !fill.is_empty() => {
+            bytes.as_slice().chunks(fill.len()).all(|cell| cell == fill)
+        }
+        ArrayBytes::Variable(strings) => {
+            for index in 0..strings.len() {
+                if strings.get(index) != fill {
+                    return false;
+                }
+            }
+            true
+        }
+        _ => false,
+    }
+}
+
+/// Returns the array over a store in memory, which has this value at the key.
+fn copied(
+    array: &Array<()>,
+    alloc: Global,
+    key: &StoreKey,
+    value: Bytes,
+) -> Result<Array<MemoryStore>, Refusal> {
+    let mut memory = MemoryStore::new(alloc);
+    memory.set(alloc, key, value)?;
+    Ok(array.with_storage(alloc, memory)?)
+}
+
+/// Decodes the chunk, and compacts it.
+fn judged(
+    copy: &mut Array<MemoryStore>,
+    alloc: Global,
+    indices: &[u64],
+) -> Result<Option<Verdict>, Refusal> {
+    if indices.len() != copy.dimensionality() {
+        return Ok(None);
+    }
+    match copy.retrieve_chunk::<ArrayBytes<'static>>(alloc, indices) {
+        Ok(cells) => {
+            let is_fill = is_all_fill(copy.fill_value(), &cells);
+            drop(cells);
+            let is_compact = !copy.compact_chunk(alloc, indices, &CodecOptions::default())?;
+            Ok(Some(Verdict::Decodes {
+                is_fill,
+                is_compact,
+            }))
+        }
+        Err(error) => Ok(Some(Verdict::Broken(error))),
+    }
+}
+
+/// Judges a copy in memory of the chunk that the file has.
+fn look_at(
+    opened: &mut Opened<'_>,
+    alloc: Global,
+    indices: &[u64],
+) -> Result<Option<Verdict>, Refusal> {
+    if indices.len() != opened.array.dimensionality() {
+        return Ok(None);
+    }
+    let key = opened.array.chunk_key(alloc, indices)?;
+    opened.store.forget();
+    let Some(value) = read_value(&mut opened.store, alloc, &key)? else {
+        return Ok(None);
+    };
+    let mut copy = copied(&opened.array, alloc, &key, value)?;
+    let verdict = judged(&mut copy, alloc, indices);
+    drop(copy);
+    verdict
+}
+
+impl Counts {
+    /// Counts a file that is none of the array's, and names it.
+    fn add_foreign(&mut self, rt: &HostRuntime, file: &Found) -> Result<(), Refusal> {
+        self.foreign = self.foreign.saturating_add(1);
+        println!(rt; "{}: no chunk and no document of this array", file.key)?;
+        Ok(())
+    }
+
+    /// Counts the file of a chunk, and says what is wrong with it.
+    fn add(
+        &mut self,
+        rt: &HostRuntime,
+        opened: &mut Opened<'_>,
+        indices: &[u64],
+        file: &Found,
+    ) -> Result<(), Refusal> {
+        let key = file.key.as_str();
+        self.chunks = self.chunks.saturating_add(1);
+        self.bytes = self.bytes.saturating_add(file.size);
+        match look_at(opened, rt.alloc(), indices) {
+            Ok(
+                Some(
+                    Verdict::Decodes {
+                        is_fill,
+                        is_compact,
+                    },
+                ),
+            ) => {
+                self.all_fill = self.all_fill.saturating_add(u64::from(is_fill));
+                if !is_compact {
+                    println!(rt; "{key}: its shard has gaps or overlaps")?;
+                }
+            }
+            Ok(Some(Verdict::Broken(error))) => {
+                self.broken = self.broken.saturating_add(1);
+                println!(rt; "{key}: {}", Refusal::Call(error))?;
+            }
+            Ok(None) => {}
+            Err(refusal) => {
+                self.broken = self.broken.saturating_add(1);
+                println!(rt; "{key}: {refusal}")?;
+            }
+        }
+        Ok(())
+    }
+}
+
+/// Looks at each file below the directory of an array: at the chunks in row-major order, and then at what is none. Returns
+/// whether each chunk decodes.
+pub(crate) fn check(rt: &HostRuntime, dir: &str) -> Result<bool, Refusal> {
+    let mut opened = open(rt, dir)?;
+    let mut counts = Counts {
+        chunks: 0,
+        bytes: 0,
+        all_fill: 0,
+        broken: 0,
+        foreign: 0,
+    };
+    for chunk in present_chunks(rt, dir, &opened.array)? {
+        if !chunk.file.is_odd {
+            counts.add(rt, &mut opened, &chunk.indices, &chunk.file)?;
+        }
+    }
+    for file in files_below(rt, dir)? {
+        let is_document = METADATA.iter().any(|name| *name == file.key.as_str());
+        if !is_document && !is_chunk(rt.alloc(), &opened.array, &file)? {
+            counts.add_foreign(rt, &file)?;
+        }
+    }
+    println!(rt;
+        "chunks {} bytes {} all-fill {} broken {} foreign {}",
+        counts.chunks, counts.bytes, counts.all_fill, counts.broken, counts.foreign
+    )?;
+    Ok(counts.broken == 0)
+}
