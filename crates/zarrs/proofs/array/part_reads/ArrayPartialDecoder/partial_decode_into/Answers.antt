@@ -15,7 +15,7 @@ returns-in_err-chunk_subset g c =
     let part = g.R.ArraySubsetTraits.region c.args.chunk_subset.now in
     let kept = keeps_itself c.args.target.now in
     let covered = λ (lies : part_refusal layout index part ≡ None).
-    part_region layout decoder.decoder.engine.now.layout.lawful index decoder.decoder.boxed part (g.R.ArraySubsetTraits.is_long c.args.chunk_subset.now) lies
+    part_region layout decoder.decoder.engine.now.layout.lawful index decoder.decoder.boxed part (g.met.R.ArraySubsetTraits.is_long c.args.chunk_subset.now) lies
     (state_of_decoder g.TStorage.ReadableStorageTraits.state decoder).shape in
     search (rules, covered, kept)
 
