@@ -24,7 +24,7 @@ loop-indices-preserved c = record {
       each_more (HasRead (layout_of_array c.args.array.now) c.loop-indices.store) (HasRead (layout_of_array c.args.array.now) c.read_chunk.new.store) (chunks_met (layout_of_array c.args.array.now).grid (box_of c.args.region.now))
       (positions_left c.loop-indices.indices-iterator) (positions_left c.next.new.self) c.in_ok-indices.indices.items
       (yielded c.loop-indices.indices-iterator c.next.new.self c.next.result c.in_ok-indices.indices c.next.ensures.steps (c.in-Some.is ∙ ap Some c.in_ok-indices.was))
-      (subst (HasRead (layout_of_array c.args.array.now) c.read_chunk.new.store) c.deref.ensures.value c.in_ok-read_chunk.ensures.read)
+      (subst (HasRead (layout_of_array c.args.array.now) c.read_chunk.new.store) c.deref.ensures c.in_ok-read_chunk.ensures.read)
       c.in_ok-read_chunk.ensures.kept.chunks c.loop-indices.invariant.each;
   directory = c.in_ok-read_chunk.ensures.kept.directory ∙ c.loop-indices.invariant.directory;
 }
