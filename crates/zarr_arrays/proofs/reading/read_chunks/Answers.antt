@@ -29,6 +29,17 @@ loop-indices-preserved c = record {
   directory = c.in_ok-read_chunk.ensures.kept.directory ∙ c.loop-indices.invariant.directory;
 }
 
+pub loop-indices-preserved-in_ok-read_chunk : goal.loop-indices-preserved-in_ok-read_chunk
+loop-indices-preserved-in_ok-read_chunk c = record {
+  each =
+      each_more (HasRead (layout_of_array c.args.array.now) c.loop-indices.store) (HasRead (layout_of_array c.args.array.now) c.read_chunk.new.store) (chunks_met (layout_of_array c.args.array.now).grid (box_of c.args.region.now))
+      (positions_left c.loop-indices.indices-iterator) (positions_left c.next.new.self) c.in_ok-indices.indices.items
+      (yielded c.loop-indices.indices-iterator c.next.new.self c.next.result c.in_ok-indices.indices c.next.ensures.steps (c.in-Some.is ∙ ap Some c.in_ok-indices.was))
+      (subst (HasRead (layout_of_array c.args.array.now) c.read_chunk.new.store) c.deref.ensures c.in_ok-read_chunk.ensures.read)
+      c.in_ok-read_chunk.ensures.kept.chunks c.loop-indices.invariant.each;
+  directory = c.in_ok-read_chunk.ensures.kept.directory ∙ c.loop-indices.invariant.directory;
+}
+
 pub returns-clause-ask : goal.returns-clause-ask
 returns-clause-ask c = λ index among.
     each_all (HasRead (layout_of_array c.args.array.now) c.loop-indices.store) (chunks_met (layout_of_array c.args.array.now).grid (box_of c.args.region.now)) (positions_left c.loop-indices.indices-iterator)

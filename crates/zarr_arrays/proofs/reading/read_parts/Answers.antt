@@ -29,6 +29,17 @@ loop-indices-preserved c = record {
   directory = c.in_ok-read_part.ensures.kept.directory ∙ c.loop-indices.invariant.directory;
 }
 
+pub loop-indices-preserved-in_ok-read_part : goal.loop-indices-preserved-in_ok-read_part
+loop-indices-preserved-in_ok-read_part c = record {
+  each =
+      each_more (HasReadPart (layout_of_array c.args.array.now) (box_of c.args.region.now) c.loop-indices.store) (HasReadPart (layout_of_array c.args.array.now) (box_of c.args.region.now) c.read_part.new.store) (chunks_met (layout_of_array c.args.array.now).grid (box_of c.args.region.now))
+      (positions_left c.loop-indices.indices-iterator) (positions_left c.next.new.self) c.in_ok-indices.indices.items
+      (yielded c.loop-indices.indices-iterator c.next.new.self c.next.result c.in_ok-indices.indices c.next.ensures.steps (c.in-Some.is ∙ ap Some c.in_ok-indices.was))
+      (subst (HasReadPart (layout_of_array c.args.array.now) (box_of c.args.region.now) c.read_part.new.store) c.deref.ensures c.in_ok-read_part.ensures.read)
+      (λ index before part. c.in_ok-read_part.ensures.kept.chunks index (before part)) c.loop-indices.invariant.each;
+  directory = c.in_ok-read_part.ensures.kept.directory ∙ c.loop-indices.invariant.directory;
+}
+
 pub returns-clause-ask : goal.returns-clause-ask
 returns-clause-ask c = λ index among.
     each_all (HasReadPart (layout_of_array c.args.array.now) (box_of c.args.region.now) c.loop-indices.store) (chunks_met (layout_of_array c.args.array.now).grid (box_of c.args.region.now)) (positions_left c.loop-indices.indices-iterator)
