@@ -1,6 +1,6 @@
 #!/bin/bash
-# build.sh [FOLDER]: makes FOLDER/zarr (tool/out), the program of crates/zarr, in some minutes. Nothing is proved by it.
-# TOOL_ROOM: a folder where it is built, and which then stays (a new one, removed at the end).
+# build.sh [FOLDER]: makes FOLDER/zarr (tool/out), the program of these sources over the crates of this repository. Nothing is proved by it.
+# TOOL_ROOM: a folder outside the repository where it is built, and which then stays (a new one, removed at the end).
 # README.md says how it is built.
 set -euo pipefail
 tool=$(dirname "$(realpath "$0")")
@@ -14,9 +14,26 @@ else
     room=$(mktemp -d)
     trap 'rm -rf "$room"' EXIT
 fi
+case $room/ in "$top"/*) echo "build.sh: $room lies in the repository" >&2; exit 2 ;; esac
 
 clang() {
     (exec -a clang "$kit/toolchain/bin/clang" "$@")
+}
+
+# A copy of the repository's crates, with those of the tool behind them. The ending .txt goes, and a wrong body is one that no gate tries.
+copy() {
+    rm -rf "$room/copy"
+    mkdir -p "$room/copy"
+    tar -C "$top" --exclude='./crates/*/out' -cf - ./crates ./crates.txt ./HANDLES | tar -C "$room/copy" -xf -
+    cat "$tool/crates.txt.part" >> "$room/copy/crates.txt"
+    local crate path to
+    for crate in zarr_commands zarr; do
+        while IFS= read -r path; do
+            to=$room/copy/crates/$crate/${path%.txt}
+            mkdir -p "$(dirname "$to")"
+            cp "$tool/$crate/$path" "${to/%.edit/.edit.md}"
+        done < <(cd "$tool/$crate" && find . -name '*.txt' -type f -not -path './data/*')
+    done
 }
 
 # Links to a folder's files, but for those that are named.
@@ -45,7 +62,7 @@ END
     # rt try asks rattle for hints only.
     printf '#!/bin/sh\n' > "$room/kit/bin/rattle"
     chmod +x "$room/kit/toolchain/bin/clang" "$room/kit/bin/rattle"
-    (cd "$top/crates/zarr" && "$room/kit/bin/rt" try) > "$room/try.log" 2>&1 < /dev/null || true
+    (cd "$room/copy/crates/zarr" && "$room/kit/bin/rt" try) > "$room/try.log" 2>&1 < /dev/null || true
     if [ ! -s "$room/module.bc" ]; then cat "$room/try.log" >&2; exit 1; fi
 }
 
@@ -56,6 +73,7 @@ program() {
     cc -pie -Wl,--gc-sections -o "$room/zarr" "$room/zarr.o" "$kit/c/libos_c.a" "$kit/c/liblibc_c.a"
 }
 
+copy
 module
 program
 mkdir -p "$out"
