@@ -1,2 +1,4 @@
 mod Decodes
 mod DirectCalls
+mod NewStores
+mod UpgradedStores

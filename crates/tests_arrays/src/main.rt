@@ -18,6 +18,7 @@ pub mod documents;
 pub mod encoded;
 #[cfg(test)]
 mod errors;
+pub mod histories;
 #[cfg(test)]
 mod made;
 #[cfg(test)]
@@ -28,6 +29,7 @@ mod scripts;
 mod setters;
 #[cfg(test)]
 mod shards;
+pub mod upgraded;
 #[cfg(test)]
 mod uses;
 
