@@ -2,3 +2,4 @@ pub mod LineLemmas
 pub mod ListLemmas
 pub mod RowLemmas
 pub mod WordLemmas
+mod LawLemmas

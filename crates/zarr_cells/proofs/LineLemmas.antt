@@ -299,7 +299,7 @@ module _ (form : Form) (size width : ℕ) where
       (ap (λ l. Some (l, rest)) (sym (append_assoc parts.0 parts.1 others) ∙ ap (λ l. l ++ others) (sym parts.4))) in
       ap (λ n. cells_in form size width n column text) sum ∙ longer
 
-  column_both : (column count more : ℕ) → column_after width column (count + more) ≡ column_after width (column_after width column count) more
+  pub column_both : (column count more : ℕ) → column_after width column (count + more) ≡ column_after width (column_after width column count) more
   column_both column zero more = let sum : 0 + more ≡ more = omega arith in ap (column_after width column) sum
   column_both column (suc count) more =
       let sum : suc count + more ≡ suc (count + more) = omega arith in ap (column_after width column) sum ∙ column_both (next width column) count more

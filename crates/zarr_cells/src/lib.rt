@@ -10,6 +10,7 @@ mod cells;
 mod error;
 mod floats;
 mod form;
+pub mod laws;
 mod lens;
 mod lines;
 pub mod npy;

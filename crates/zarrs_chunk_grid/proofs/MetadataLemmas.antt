@@ -46,6 +46,6 @@ dimensions_back sizes =
 -- the configuration that a grid's own metadata says
 pub said_back : (g : ChunkGrid) → configuration_said (extension_of_grid (configuration_of g)) ≡ Some (configuration_of g)
 said_back (Regular g) = ap (λ (o : Option (List ℕ)). option_map regular o) (sizes_back g.chunk_shape.items)
-said_back (RegularBounded g) = ap (λ (o : Option (List ℕ)). option_map bounded o) (sizes_back g.chunk_shape.items)
+said_back (RegularBounded g) = ap (λ (o : Option (List ℕ)). option_map bounded o) (sizes_back g.whole.chunk_shape.items)
 said_back (Rectangular g) =
     ap (λ (o : Option (List DimensionSizes)). option_map rectangular o) (dimensions_back g.sizes.items)

@@ -11,19 +11,19 @@ use Rattle.zarrs_chunk_grid.specs.declared.grid.ChunkGrid.TheVariants.{Regular, 
 -- the grid's name and its sizes
 abbrev pub configuration_of : ChunkGrid → GridConfiguration
 configuration_of (Regular g) = regular (sizes_of g.chunk_shape.items)
-configuration_of (RegularBounded g) = bounded (sizes_of g.chunk_shape.items)
+configuration_of (RegularBounded g) = bounded (sizes_of g.whole.chunk_shape.items)
 configuration_of (Rectangular g) = rectangular (map sizes_view g.sizes.items)
 
 -- the extents of the array
 abbrev pub array_extents_of : ChunkGrid → List ℕ
 array_extents_of (Regular g) = g.array_shape.items
-array_extents_of (RegularBounded g) = g.array_shape.items
+array_extents_of (RegularBounded g) = g.whole.array_shape.items
 array_extents_of (Rectangular g) = g.array_shape.items
 
 -- the grid shape
 abbrev pub grid_extents_of : ChunkGrid → List ℕ
 grid_extents_of (Regular g) = g.grid_shape.items
-grid_extents_of (RegularBounded g) = g.grid_shape.items
+grid_extents_of (RegularBounded g) = g.whole.grid_shape.items
 grid_extents_of (Rectangular g) = g.grid_shape.items
 
 -- the grid of the configuration that was said, over an array of that shape; or a refusal, if there is

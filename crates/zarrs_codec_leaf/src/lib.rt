@@ -18,6 +18,7 @@ mod packbits;
 mod rows;
 mod source;
 mod stored;
+mod strings;
 mod vlen;
 mod vlen_strings;
 

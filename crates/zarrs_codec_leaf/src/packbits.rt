@@ -22,10 +22,7 @@ impl LeafCodec for PackBitsCodec {
     ghost meaning = { λ _. packbits_meaning };
 
     fn takes(&self, data_type: &DataType) -> bool {
-        match data_type {
-            DataType::Bool => true,
-            _ => false,
-        }
+        matches!(data_type, DataType::Bool)
     }
 
     fn encode(

@@ -1,103 +1,64 @@
 //! The codec `zarrs.vlen`.
-ghost use Rattle.std.specs.Prelude.{◌≡◌, ◌/◌, ◌<◌, ◌++◌, Some, IfOk, IfErr, IsSome, OnOk, length, map};
-ghost use Rattle.std.specs.Prelude.{option_map};
+ghost use Rattle.std.specs.Prelude.{◌≡◌, ◌/◌, ◌<◌, ◌++◌, IfOk, OnOk, length, map, option_map};
 ghost use Rattle.std.specs.List.{flat_map};
 ghost use Rattle.std.specs.Int.{w64, to_le_bytes, from_le_bytes};
 ghost use Rattle.std.specs.Simd.{first_chunks};
-ghost use Rattle.zarrs_data_type.specs.ArrayData.{data_of};
-ghost use Rattle.zarrs_data_type.specs.Cells.{cells};
-ghost use Rattle.zarrs_data_type.specs.Kind.{kind};
-ghost use Rattle.zarrs_codec_leaf.specs.Vlen.{cut, indexed, split_index, unindexed, vlen_meaning};
+ghost use Rattle.zarrs_data_type.specs.Kind.{kind, is_variable};
+ghost use Rattle.zarrs_codec_leaf.specs.Vlen.{cut, indexed, split_index, unindexed};
 ghost use Rattle.zarrs_codec_leaf.specs.VlenLaws.{vlen-lawful};
-ghost use Rattle.zarrs_codec_leaf.specs.Refusals.{RefusesEncoding, RefusesDecoding};
-ghost use Rattle.zarrs_codec_leaf.specs.Leaf.{encoding_of};
 
-use crate::codec::LeafCodec;
-use crate::error::{CodecError, Misfit};
+use crate::strings::StringsCodec;
 use std::alloc::{AllocError, Global};
 use std::borrow::CowSlice;
-use zarrs_data_type::{ArrayBytes, ArrayBytesOffsets, ArrayBytesVariableLength, DataType};
+use zarrs_data_type::{ArrayBytesOffsets, ArrayBytesVariableLength, DataType};
 
 /// Texts or byte strings: the length of the index in 8 bytes, little endian, the index, and their bytes one after
 /// another. The index has the offset where each of them starts, and where the last one ends, in 8 bytes too.
 #[derive(Clone, Copy, Debug, Default, Drop, PartialEq, Eq)]
 pub struct VlenCodec;
 
-impl LeafCodec for VlenCodec {
-    ghost meaning = { λ _. vlen_meaning };
+impl StringsCodec for VlenCodec {
+    ghost taken = { is_variable };
 
-    fn takes(&self, data_type: &DataType) -> bool {
+    ghost written = { indexed };
+
+    ghost read = { unindexed };
+
+    ghost variable = { λ k is. is };
+
+    ghost lawful = { vlen-lawful };
+
+    fn takes_type(data_type: &DataType) -> bool {
         data_type.is_variable()
     }
 
-    fn encode(
-        &self,
+    fn write(
         alloc: Global,
-        bytes: &ArrayBytes<'_>,
-        data_type: &DataType,
-    ) -> Result<Vec<u8>, CodecError> {
-        if !self.takes(data_type) {
-            return Err(CodecError::DoesNotFit(Misfit::TypeOrShape));
-        }
-        match bytes {
-            ArrayBytes::Variable(strings) => {
-                let made = indexed(alloc, strings)?;
-                match made {
-                    Some(encoded) => Ok(encoded),
-                    None => Err(CodecError::SizeOverflow),
-                }
-            }
-            ArrayBytes::Fixed(_) => Err(CodecError::DoesNotFit(Misfit::NoValue)),
-            ArrayBytes::Optional(_) => Err(CodecError::DoesNotFit(Misfit::NoValue)),
-        }
+        strings: &ArrayBytesVariableLength<'_>,
+    ) -> Result<Option<Vec<u8>>, AllocError> {
+        let offsets = strings.offsets().as_slice();
+        let bytes = strings.bytes();
+        let Some(index_len) = offsets.len().checked_mul(8) else {
+            return Ok(None);
+        };
+        let room = index_len.saturating_add(bytes.len()).saturating_add(8);
+        let mut encoded = Vec::with_capacity(alloc, room)?;
+        encoded.extend_from_slice(&(index_len as u64).to_le_bytes())?;
+        push_index(&mut encoded, offsets)?;
+        encoded.extend_from_slice(bytes)?;
+        Ok(Some(encoded))
     }
 
-    fn decode<'a>(
-        &self,
+    fn read(
         alloc: Global,
-        encoded: &'a [u8],
-        data_type: &DataType,
+        encoded: &[u8],
         count: u64,
-    ) -> Result<ArrayBytes<'a>, CodecError> {
-        if !self.takes(data_type) {
-            return Err(CodecError::DoesNotFit(Misfit::TypeOrShape));
-        }
-        let read = unindexed(alloc, encoded, count)?;
-        match read {
-            Some(strings) => {
-                let data = ArrayBytes::Variable(strings);
-                if !data.validate(data_type, count) {
-                    return Err(CodecError::DoesNotFit(Misfit::Bytes));
-                }
-                Ok(data)
-            }
-            None => Err(CodecError::DoesNotFit(Misfit::Bytes)),
+    ) -> Result<Option<ArrayBytesVariableLength<'static>>, AllocError> {
+        match split_index(encoded, count) {
+            Some((index, bytes)) => cut(alloc, offsets_in(alloc, index)?, bytes),
+            None => Ok(None),
         }
     }
-
-    ghost lawful = { λ _. vlen-lawful };
-}
-
-/// The length of the index, the index and the data of byte strings, or `None` if the length of the index does not fit
-/// 8 bytes.
-fn indexed(
-    alloc: Global,
-    strings: &ArrayBytesVariableLength<'_>,
-) -> Result<Option<Vec<u8>>, AllocError>
-    ensures { IfOk result (λ made. option_map (λ encoded. encoded.items) made
-        ≡ indexed strings.now) }
-{
-    let offsets = strings.offsets().as_slice();
-    let bytes = strings.bytes();
-    let Some(index_len) = offsets.len().checked_mul(8) else {
-        return Ok(None);
-    };
-    let room = index_len.saturating_add(bytes.len()).saturating_add(8);
-    let mut encoded = Vec::with_capacity(alloc, room)?;
-    encoded.extend_from_slice(&(index_len as u64).to_le_bytes())?;
-    push_index(&mut encoded, offsets)?;
-    encoded.extend_from_slice(bytes)?;
-    Ok(Some(encoded))
 }
 
 /// Puts the offsets behind the bytes, each in 8 bytes.
@@ -109,20 +70,6 @@ fn push_index(encoded: &mut Vec<u8>, offsets: &[usize]) -> Result<(), AllocError
         encoded.extend_from_slice(&(*offset as u64).to_le_bytes())?;
     }
     Ok(())
-}
-
-/// The `count` byte strings of the bytes, behind their index.
-fn unindexed(
-    alloc: Global,
-    encoded: &[u8],
-    count: u64,
-) -> Result<Option<ArrayBytesVariableLength<'static>>, AllocError>
-    ensures { IfOk result (λ strings. strings ≡ unindexed count encoded.now) }
-{
-    match split_index(encoded, count) {
-        Some((index, bytes)) => cut(alloc, offsets_in(alloc, index)?, bytes),
-        None => Ok(None),
-    }
 }
 
 /// The index of `count` byte strings, and what follows it, if the bytes begin with its length.

@@ -1,20 +1,14 @@
 //! The codecs `vlen-utf8` and `vlen-bytes`.
-ghost use Rattle.std.specs.Prelude.{◌≡◌, ◌++◌, ℕ, List, Some, Ok, true, IfOk, IfErr, IsSome};
-ghost use Rattle.std.specs.Prelude.{option_map};
-ghost use Rattle.zarrs_data_type.specs.ArrayData.{data_of};
-ghost use Rattle.zarrs_data_type.specs.Cells.{cells};
+ghost use Rattle.std.specs.Prelude.{◌≡◌, ◌++◌, Ok, true, IfOk, option_map};
 ghost use Rattle.zarrs_data_type.specs.Kind.{kind};
 ghost use Rattle.zarrs_codec_leaf.specs.VlenStrings.{behind_length, counted_strings, first_string};
-ghost use Rattle.zarrs_codec_leaf.specs.VlenStrings.{is_short, strings_of, uncounted};
-ghost use Rattle.zarrs_codec_leaf.specs.VlenStrings.{vlen_bytes_meaning, vlen_utf8_meaning};
+ghost use Rattle.zarrs_codec_leaf.specs.VlenStrings.{is_bytes, is_short, is_string, strings_of, uncounted};
+ghost use Rattle.zarrs_codec_leaf.specs.VlenStringsLaws.{bytes-variable, string-variable};
 ghost use Rattle.zarrs_codec_leaf.specs.VlenStringsLaws.{vlen_bytes-lawful, vlen_utf8-lawful};
-ghost use Rattle.zarrs_codec_leaf.specs.Refusals.{RefusesEncoding, RefusesDecoding};
-ghost use Rattle.zarrs_codec_leaf.specs.Leaf.{encoding_of};
 
-use crate::codec::LeafCodec;
-use crate::error::{CodecError, Misfit};
+use crate::strings::StringsCodec;
 use std::alloc::{AllocError, Global};
-use zarrs_data_type::{ArrayBytes, ArrayBytesVariableLength, DataType, VariableLengthBuilder};
+use zarrs_data_type::{ArrayBytesVariableLength, DataType, VariableLengthBuilder};
 
 /// Texts: their number in 4 bytes, little endian, and each text behind its length, in 4 bytes too.
 #[derive(Clone, Copy, Debug, Default, Drop, PartialEq, Eq)]
@@ -25,120 +19,66 @@ pub struct VlenUtf8Codec;
 #[derive(Clone, Copy, Debug, Default, Drop, PartialEq, Eq)]
 pub struct VlenBytesCodec;
 
-impl LeafCodec for VlenUtf8Codec {
-    ghost meaning = { λ _. vlen_utf8_meaning };
+impl StringsCodec for VlenUtf8Codec {
+    ghost taken = { is_string };
 
-    fn takes(&self, data_type: &DataType) -> bool {
-        match data_type {
-            DataType::String => true,
-            _ => false,
-        }
+    ghost written = { counted_strings };
+
+    ghost read = { uncounted };
+
+    ghost variable = { string-variable };
+
+    ghost lawful = { vlen_utf8-lawful };
+
+    fn takes_type(data_type: &DataType) -> bool {
+        matches!(data_type, DataType::String)
     }
 
-    fn encode(
-        &self,
+    fn write(
         alloc: Global,
-        bytes: &ArrayBytes<'_>,
-        data_type: &DataType,
-    ) -> Result<Vec<u8>, CodecError> {
-        if !self.takes(data_type) {
-            return Err(CodecError::DoesNotFit(Misfit::TypeOrShape));
-        }
-        match bytes {
-            ArrayBytes::Variable(strings) => {
-                let made = counted_strings(alloc, strings)?;
-                match made {
-                    Some(encoded) => Ok(encoded),
-                    None => Err(CodecError::SizeOverflow),
-                }
-            }
-            ArrayBytes::Fixed(_) => Err(CodecError::DoesNotFit(Misfit::NoValue)),
-            ArrayBytes::Optional(_) => Err(CodecError::DoesNotFit(Misfit::NoValue)),
-        }
+        strings: &ArrayBytesVariableLength<'_>,
+    ) -> Result<Option<Vec<u8>>, AllocError> {
+        counted_strings(alloc, strings)
     }
 
-    fn decode<'a>(
-        &self,
+    fn read(
         alloc: Global,
-        encoded: &'a [u8],
-        data_type: &DataType,
+        encoded: &[u8],
         count: u64,
-    ) -> Result<ArrayBytes<'a>, CodecError> {
-        if !self.takes(data_type) {
-            return Err(CodecError::DoesNotFit(Misfit::TypeOrShape));
-        }
-        let read = uncounted(alloc, encoded, count)?;
-        match read {
-            Some(strings) => {
-                let data = ArrayBytes::Variable(strings);
-                if !data.validate(data_type, count) {
-                    return Err(CodecError::DoesNotFit(Misfit::Bytes));
-                }
-                Ok(data)
-            }
-            None => Err(CodecError::DoesNotFit(Misfit::Bytes)),
-        }
+    ) -> Result<Option<ArrayBytesVariableLength<'static>>, AllocError> {
+        uncounted(alloc, encoded, count)
     }
-
-    ghost lawful = { λ _. vlen_utf8-lawful };
 }
 
-impl LeafCodec for VlenBytesCodec {
-    ghost meaning = { λ _. vlen_bytes_meaning };
+impl StringsCodec for VlenBytesCodec {
+    ghost taken = { is_bytes };
 
-    fn takes(&self, data_type: &DataType) -> bool {
-        match data_type {
-            DataType::Bytes => true,
-            _ => false,
-        }
+    ghost written = { counted_strings };
+
+    ghost read = { uncounted };
+
+    ghost variable = { bytes-variable };
+
+    ghost lawful = { vlen_bytes-lawful };
+
+    fn takes_type(data_type: &DataType) -> bool {
+        matches!(data_type, DataType::Bytes)
     }
 
-    fn encode(
-        &self,
+    fn write(
         alloc: Global,
-        bytes: &ArrayBytes<'_>,
-        data_type: &DataType,
-    ) -> Result<Vec<u8>, CodecError> {
-        if !self.takes(data_type) {
-            return Err(CodecError::DoesNotFit(Misfit::TypeOrShape));
-        }
-        match bytes {
-            ArrayBytes::Variable(strings) => {
-                let made = counted_strings(alloc, strings)?;
-                match made {
-                    Some(encoded) => Ok(encoded),
-                    None => Err(CodecError::SizeOverflow),
-                }
-            }
-            ArrayBytes::Fixed(_) => Err(CodecError::DoesNotFit(Misfit::NoValue)),
-            ArrayBytes::Optional(_) => Err(CodecError::DoesNotFit(Misfit::NoValue)),
-        }
+        strings: &ArrayBytesVariableLength<'_>,
+    ) -> Result<Option<Vec<u8>>, AllocError> {
+        counted_strings(alloc, strings)
     }
 
-    fn decode<'a>(
-        &self,
+    fn read(
         alloc: Global,
-        encoded: &'a [u8],
-        data_type: &DataType,
+        encoded: &[u8],
         count: u64,
-    ) -> Result<ArrayBytes<'a>, CodecError> {
-        if !self.takes(data_type) {
-            return Err(CodecError::DoesNotFit(Misfit::TypeOrShape));
-        }
-        let read = uncounted(alloc, encoded, count)?;
-        match read {
-            Some(strings) => {
-                let data = ArrayBytes::Variable(strings);
-                if !data.validate(data_type, count) {
-                    return Err(CodecError::DoesNotFit(Misfit::Bytes));
-                }
-                Ok(data)
-            }
-            None => Err(CodecError::DoesNotFit(Misfit::Bytes)),
-        }
+    ) -> Result<Option<ArrayBytesVariableLength<'static>>, AllocError> {
+        uncounted(alloc, encoded, count)
     }
-
-    ghost lawful = { λ _. vlen_bytes-lawful };
 }
 
 /// The bytes of byte strings, or `None` if their number or a length does not fit 4 bytes.

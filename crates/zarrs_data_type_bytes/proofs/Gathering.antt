@@ -7,7 +7,8 @@ use Rattle.std.proofs.Math.Nat.{mul-div_cancel}
 use Rattle.std.proofs.lemmas.Bool.{cases_lt}
 use Rattle.std.proofs.lemmas.Grind.{flat_map-append}
 use Rattle.std.proofs.lemmas.List.{append-nil, map-append}
-use Rattle.zarrs_data_type_bytes.specs.Present.{places_set}
+use Rattle.zarrs_data_type_bytes.specs.Present.{TakesPieces}
+use Rattle.zarrs_data_type_bytes.proofs.Places.{places_set}
 use Rattle.zarrs_data_type_bytes.proofs.Presence.{All-pushed, places-set, places-unset}
 use Rattle.zarrs_data_type_bytes.proofs.Spread.{chosen, length-chosen, slice_range-chosen}
 
@@ -39,15 +40,15 @@ places_within mask (suc n) m le =
 -- the cells put together
 pub gathered_is : (b mask out : List ℕ) (size : ℕ) (cs : List (List ℕ)) → 0 < size → length b ≡ length mask * size → cs ≡ first_chunks size (length b / size) b
     → out ≡ flat_map (λ x. x) (map (λ p. get_or cs p []) (places_set mask (length mask)))
-    → (length out ≡ length (places_set mask (length mask)) * size) × ((k : ℕ) → k < length (places_set mask (length mask))
-    → slice_range out (k * size) (k * size + size) ≡ slice_range b (slice_index (places_set mask (length mask)) k * size) (slice_index (places_set mask (length mask)) k * size + size))
+    → TakesPieces size (places_set mask (length mask)) b out
 gathered_is b mask out size cs wide len cut are =
     let n = length mask in
     let places = places_set mask n in
     let within : All (λ p. p < n) places = places_within mask n n (omega arith) in
     let count : length b / size ≡ n = ap (λ m. m / size) len ∙ mul-div_cancel n wide in
     let pieces : cs ≡ first_chunks size n b = cut ∙ ap (λ m. first_chunks size m b) count in
-    let whole : out ≡ flat_map (λ x. x) (chosen b size n places len within) = are ∙ ap (λ l. flat_map (λ x. x) (map (λ p. get_or l p []) places)) pieces in (
-      ap length whole ∙ length-chosen b size n places len within,
-      λ k lt. ap (λ l. slice_range l (k * size) (k * size + size)) whole ∙ slice_range-chosen b size n places len within k lt,
-    )
+    let whole : out ≡ flat_map (λ x. x) (chosen b size n places len within) = are ∙ ap (λ l. flat_map (λ x. x) (map (λ p. get_or l p []) places)) pieces in
+    record {
+      len = ap length whole ∙ length-chosen b size n places len within;
+      each = λ k lt. ap (λ l. slice_range l (k * size) (k * size + size)) whole ∙ slice_range-chosen b size n places len within k lt;
+    }

@@ -6,6 +6,7 @@ pub mod FixedSizes
 pub mod Made
 pub mod Parts
 pub mod Pieces
+mod Places
 pub mod Presence
 pub mod Spread
 pub mod Validity

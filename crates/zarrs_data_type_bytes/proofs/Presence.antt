@@ -17,9 +17,10 @@ use Rattle.zarrs_data_type_kinds.specs.Cell.{Cell, bytes, none, some, is_value, 
 use Rattle.zarrs_data_type_kinds.proofs.Sizes.{element_size-positive}
 use Rattle.zarrs_data_type_bytes.specs.ArrayData.{ArrayData, optional}
 use Rattle.zarrs_data_type_bytes.specs.Cells.{fits, cell_at, cells, HasCells, CanSelect, IsSelection}
-use Rattle.zarrs_data_type_bytes.specs.Present.{flag_set, places_set, ranks_set, present_cells, spread_cells}
+use Rattle.zarrs_data_type_bytes.specs.Present.{flag_set, ranks_set, present_cells, spread_cells}
 use Rattle.zarrs_data_type_bytes.proofs.Cells.{cells-parts, cells-values, cells-as, count_of-fits, HasCells-cells, HasCells-parts}
 use Rattle.zarrs_data_type_bytes.proofs.Filled.{fits-optional}
+use Rattle.zarrs_data_type_bytes.proofs.Places.{places_set}
 
 -- ---- the cells that are some, taken out
 

@@ -15,11 +15,11 @@ use Rattle.zarrs_data_type_kinds.specs.Kind.{Kind, element_size}
 use Rattle.zarrs_data_type_kinds.specs.Cell.{bytes}
 use Rattle.zarrs_data_type_bytes.specs.ArrayData.{ArrayData, fixed}
 use Rattle.zarrs_data_type_bytes.specs.Cells.{fits, HasCells, CanSelect, IsSelection}
-use Rattle.zarrs_data_type_bytes.specs.Present.{flag_set, ranks_set}
+use Rattle.zarrs_data_type_bytes.specs.Present.{TakesPieces, flag_set, ranks_set}
 use Rattle.zarrs_data_type_bytes.proofs.Cells.{fitting-fixed, HasCells-parts}
 use Rattle.zarrs_data_type_bytes.proofs.Filled.{cell_at-fixed}
 use Rattle.zarrs_data_type_bytes.proofs.Pieces.{length-flat_map_same, pieces-flat_map, length-fixed_cell}
-use Rattle.zarrs_data_type_bytes.proofs.Presence.{ranks-set, ranks-unset, set-flag, unset-flag, rank_below, ranks_within, length-ranks}
+use Rattle.zarrs_data_type_bytes.proofs.Presence.{ranks-set, ranks-unset, set-flag, unset-flag, rank_below, ranks_within}
 
 -- one flag more: the rank of its cell, and how many flags are set with it
 pub record IsStep (mask : List ℕ) (n : ℕ) (at : ℕ × ℕ) : Type 0 where
@@ -96,26 +96,24 @@ module _ (b : List ℕ) (size n : ℕ) (ranks : List ℕ) (len : length b ≡ n 
 -- the cells put together
 pub spread_is : (b mask out : List ℕ) (size : ℕ) (cs : List (List ℕ)) → 0 < size → 0 < count_by flag_set mask → length b ≡ count_by flag_set mask * size → cs ≡ first_chunks size (length b / size) b
     → out ≡ flat_map (λ x. x) (map (λ r. get_or cs r []) (ranks_set mask (length mask)))
-    → (length out ≡ length mask * size) × ((k : ℕ) → k < length (ranks_set mask (length mask))
-    → slice_range out (k * size) (k * size + size) ≡ slice_range b (slice_index (ranks_set mask (length mask)) k * size) (slice_index (ranks_set mask (length mask)) k * size + size))
+    → TakesPieces size (ranks_set mask (length mask)) b out
 spread_is b mask out size cs wide some len cut are =
     let ones = count_by flag_set mask in
     let ranks = ranks_set mask (length mask) in
     let within = ranks_within mask some in
     let count : length b / size ≡ ones = ap (λ m. m / size) len ∙ mul-div_cancel ones wide in
     let pieces : cs ≡ first_chunks size ones b = cut ∙ ap (λ m. first_chunks size m b) count in
-    let whole : out ≡ flat_map (λ x. x) (chosen b size ones ranks len within) = are ∙ ap (λ l. flat_map (λ x. x) (map (λ r. get_or l r []) ranks)) pieces in (
-      ap length whole ∙ length-chosen b size ones ranks len within ∙ ap (λ m. m * size) (length-ranks mask),
-      λ k lt. ap (λ l. slice_range l (k * size) (k * size + size)) whole ∙ slice_range-chosen b size ones ranks len within k lt,
-    )
+    let whole : out ≡ flat_map (λ x. x) (chosen b size ones ranks len within) = are ∙ ap (λ l. flat_map (λ x. x) (map (λ r. get_or l r []) ranks)) pieces in
+    record {
+      len = ap length whole ∙ length-chosen b size ones ranks len within;
+      each = λ k lt. ap (λ l. slice_range l (k * size) (k * size + size)) whole ∙ slice_range-chosen b size ones ranks len within k lt;
+    }
 
 -- bytes that were taken cell by cell
-pub IsSelection-fixed : (k : Kind) (size : ℕ) (old new ranks : List ℕ) → element_size k ≡ Some size → length new ≡ length ranks * size
-    → ((i : ℕ) → i < length ranks → slice_range new (i * size) (i * size + size) ≡ slice_range old (slice_index ranks i * size) (slice_index ranks i * size + size))
-    → IsSelection k (fixed new) (fixed old) ranks
-IsSelection-fixed k size old new ranks is len each = record {
-  has_kind = fitting-fixed k size new (length ranks) is len;
-  each_cell = λ i lt. cell_at-fixed k size new i is ∙ ap bytes (each i lt) ∙ sym (cell_at-fixed k size old (slice_index ranks i) is);
+pub IsSelection-fixed : (k : Kind) (size : ℕ) (old new ranks : List ℕ) → element_size k ≡ Some size → TakesPieces size ranks old new → IsSelection k (fixed new) (fixed old) ranks
+IsSelection-fixed k size old new ranks is taken = record {
+  has_kind = fitting-fixed k size new (length ranks) is taken.len;
+  each_cell = λ i lt. cell_at-fixed k size new i is ∙ ap bytes (taken.each i lt) ∙ sym (cell_at-fixed k size old (slice_index ranks i) is);
 }
 
 -- data that is not of no cells has some

@@ -9,7 +9,7 @@ use std::alloc::{AllocError, Global};
 use zarrs_subset::{ArraySubset, place_part};
 
 /// These bytes, cells of one size over `held_box`, with the cells of `part` at the positions that both boxes have.
-pub(crate) fn bytes_with_part(
+pub fn bytes_with_part(
     bytes: Vec<u8>,
     size: usize,
     held_box: &ArraySubset,

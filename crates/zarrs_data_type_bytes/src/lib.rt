@@ -20,10 +20,11 @@ mod texts;
 mod variable;
 
 pub use array_bytes::{ArrayBytes, ArrayBytesOptional};
+pub use boxes::bytes_with_part;
 pub use error::{
     ExpectedFixedLengthBytesError, ExpectedOptionalBytesError, ExpectedVariableLengthBytesError,
 };
-pub use mask::are_flags;
+pub use mask::{Mask, are_flags};
 pub use offsets::ArrayBytesOffsets;
 pub use string_boxes::{extract_strings, strings_with_part};
 pub use variable::{ArrayBytesVariableLength, VariableLengthBuilder};

@@ -1,5 +1,5 @@
 //! Masks of optional data.
-ghost use Rattle.std.specs.Prelude.{◌≡◌, ◌<◌, All, IfOk, length, nat_lt, slice_index};
+ghost use Rattle.std.specs.Prelude.{◌≡◌, ◌<◌, All, IfOk, length, nat_lt, replicate, slice_index};
 ghost use Rattle.std.specs.Cow.{cow_slice_items};
 ghost use Rattle.std.specs.List.{list_all};
 ghost use Rattle.zarrs_data_type_bytes.specs.Parts.{ExtractsAt, TakesAt};
@@ -14,7 +14,7 @@ use zarrs_subset::ArraySubset;
 
 /// A byte for each cell: 0 if the cell is none, 1 if it is some. Contracts see the list of the bytes.
 #[derive(Debug, Drop)]
-pub(crate) struct Mask<'a> {
+pub struct Mask<'a> {
     bytes: CowSlice<'a, u8>,
 }
 
@@ -38,6 +38,28 @@ impl<'a> Mask<'a> {
         Mask { bytes }
     }
 
+    /// The flag, `count` times.
+    ///
+    /// # Errors
+    /// `AllocError`: out of memory.
+    pub fn repeated(alloc: Global, flag: u8, count: usize) -> Result<Mask<'static>, AllocError>
+        requires { flag < 2 }
+        ensures { IfOk result (λ made. made ≡ replicate count flag) }
+    {
+        let bytes = vec![in alloc; flag; count]?;
+        Ok(Mask {
+            bytes: CowSlice::Owned(bytes),
+        })
+    }
+
+    /// The bytes.
+    pub fn into_bytes(self) -> CowSlice<'a, u8>
+        ensures bytes { cow_slice_items result ≡ self.entry }
+        ensures flags { All (λ byte. byte < 2) (cow_slice_items result) }
+    {
+        self.bytes
+    }
+
     pub(crate) fn as_slice(&self) -> &[u8]
         ensures bytes { result.now ≡ self.now }
         ensures flags { All (λ byte. byte < 2) self.now }
@@ -55,24 +77,28 @@ impl<'a> Mask<'a> {
     }
 
     /// This mask, an array over `held_box`, with the flags of `part` at the positions that both boxes have.
-    pub(crate) fn with_part(
+    ///
+    /// # Errors
+    /// `AllocError`: out of memory.
+    pub fn with_part(
         self,
         alloc: Global,
         held_box: &ArraySubset,
-        part: &Mask<'_>,
+        part: &[u8],
         part_box: &ArraySubset,
     ) -> Result<Mask<'static>, AllocError>
         requires dimensions { length (box_of held_box.now).start
             ≡ length (box_of part_box.now).start }
         requires held_len { length self ≡ position_count (box_of held_box.now).shape }
         requires part_len { length part.now ≡ position_count (box_of part_box.now).shape }
+        requires flags { All (λ flag. flag < 2) part.now }
         ensures len { IfOk result (λ made. length made
             ≡ position_count (box_of held_box.now).shape) }
         ensures flags { IfOk result (λ made. TakesAt (box_of held_box.now) (box_of part_box.now)
             (slice_index part.now) (slice_index self.entry) (slice_index made)) }
     {
         let bytes = self.bytes.into_owned(alloc)?;
-        let made = bytes_with_part(bytes, 1, held_box, part.as_slice(), part_box);
+        let made = bytes_with_part(bytes, 1, held_box, part, part_box);
         Ok(Mask::new(CowSlice::Owned(made)))
     }
 

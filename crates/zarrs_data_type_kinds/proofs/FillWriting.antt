@@ -164,7 +164,7 @@ element_back type.uint64 b is small =
     ap Some (le_bytes_8 b n (eqb-true _ _ is) small refl)
 element_back (type.raw size) b is small =
     ap (option_and_then (λ (x : List ℕ). cond (eqb (length x) size) (Some x) None)) (bytes_back b small) ∙ ap (λ (t : Bool). cond t (Some b) None) is
-element_back type.string b is small = ap (λ (t : Bool). cond t (Some b) None) is
+element_back type.string b is small = refl
 element_back type.bytes b is small = bytes_back b small
 element_back (type.optional u) b is small = cc
 

@@ -4,7 +4,6 @@ use Rattle.std.specs.Prelude.{slice_index, Bool, true, false, if◌then◌else�
 use Rattle.std.specs.Prelude.{option_and_then}
 use Rattle.std.specs.Int.{w8, w16, w32, w64, cast_unsigned, cast_signed, to_le_bytes, from_le_bytes, from_bool}
 use Rattle.std.specs.List.{list_all}
-use Rattle.std.specs.Str.{is_utf8}
 use Rattle.serde_json.specs.Data.{Data, null, boolean, number, string, array, object, unsigned, Items, no_items, item}
 use Rattle.serde_json.specs.Find.{as_bool, as_number, as_i64, as_str, of_integer}
 use Rattle.zarrs_metadata_parts.specs.Lists.{number_of, numbers_of, numbers_data}
@@ -30,9 +29,6 @@ bytes_said d = option_and_then (λ b. if list_all (λ x. nat_lt x 256) b then So
 abbrev pub sized_said : ℕ → Data → Option (List ℕ)
 sized_said size d = option_and_then (λ b. if length b == size then Some b else None) (bytes_said d)
 
-abbrev pub text_said : Data → Option (List ℕ)
-text_said d = option_and_then (λ text. if is_utf8 text then Some text else None) (as_str d)
-
 -- the bytes of the cell of a type that is not optional; numbers are little endian
 abbrev pub element_said : Kind → Data → Option (List ℕ)
 element_said type.bool d = option_map (λ flag. from_bool flag ∷ []) (as_bool d)
@@ -45,7 +41,7 @@ element_said type.uint16 d = option_map (λ n. to_le_bytes w16 n) (unsigned_said
 element_said type.uint32 d = option_map (λ n. to_le_bytes w32 n) (unsigned_said 4294967295 d)
 element_said type.uint64 d = option_map (λ n. to_le_bytes w64 n) (number_of d)
 element_said (type.raw size) d = sized_said size d
-element_said type.string d = text_said d
+element_said type.string d = as_str d
 element_said type.bytes d = bytes_said d
 element_said (type.optional inner) d = None
 

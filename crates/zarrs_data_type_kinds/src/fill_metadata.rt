@@ -1,6 +1,6 @@
 //! Fill values as metadata says them, both ways.
 ghost use Rattle.std.specs.Prelude.{◌≡◌, [], ◌∷◌, ◌++◌, true, Some, None, nat_lt, length};
-ghost use Rattle.std.specs.Prelude.{option_map, if◌then◌else◌, IfOk, IfErr, IsSome};
+ghost use Rattle.std.specs.Prelude.{option_map, if◌then◌else◌, IfOk, IfErr, IfSome, IsSome};
 ghost use Rattle.std.specs.Int.{w16, w32, w64, from_le_bytes};
 ghost use Rattle.std.specs.List.{list_all};
 ghost use Rattle.std.specs.Str.{is_utf8};
@@ -10,7 +10,7 @@ ghost use Rattle.zarrs_metadata_parts.specs.FillValue.{fill_data};
 ghost use Rattle.zarrs_metadata_parts.specs.Lists.{numbers_data};
 ghost use Rattle.zarrs_data_type_kinds.specs.Cell.{fill_cell, is_element};
 ghost use Rattle.zarrs_data_type_kinds.specs.Fills.{RefusesFillMetadata, RefusesFill};
-ghost use Rattle.zarrs_data_type_kinds.specs.FillMetadata.{bytes_said, sized_said, text_said, element_said};
+ghost use Rattle.zarrs_data_type_kinds.specs.FillMetadata.{bytes_said, sized_said, element_said};
 ghost use Rattle.zarrs_data_type_kinds.specs.FillMetadata.{sole_item, fill_said, element_data, fill_written};
 ghost use Rattle.zarrs_data_type_kinds.specs.Kind.{kind};
 ghost use Rattle.zarrs_data_type_kinds.specs.Kind as type;
@@ -22,136 +22,71 @@ use serde_json::Value;
 use std::alloc::{AllocError, Global};
 use zarrs_metadata_parts::{FillValueMetadata, numbers, numbers_value};
 
-fn made(alloc: Global, bytes: &[u8]) -> Result<Option<Vec<u8>>, AllocError>
-    ensures { IfOk result (λ made. option_map (λ b. b.items) made ≡ Some bytes.now) }
+/// Returns the bytes in a list, if there are some.
+fn listed<const N: usize>(
+    alloc: Global,
+    bytes: Option<[u8; N]>,
+) -> Result<Option<Vec<u8>>, AllocError>
+    ensures { IfOk result (λ made. option_map (λ b. b.items) made ≡ bytes.entry) }
 {
-    Ok(Some(Vec::from_slice(alloc, bytes)?))
-}
-
-fn bool_said(alloc: Global, value: &Value) -> Result<Option<Vec<u8>>, AllocError>
-    ensures { IfOk result (λ said. option_map (λ b. b.items) said
-        ≡ element_said type.bool (view value.now)) }
-{
-    match value.as_bool() {
-        Some(flag) => made(alloc, &[flag as u8]),
+    match bytes {
+        Some(bytes) => Ok(Some(Vec::from_slice(alloc, &bytes)?)),
         None => Ok(None),
     }
 }
 
-fn int8_said(alloc: Global, value: &Value) -> Result<Option<Vec<u8>>, AllocError>
-    ensures { IfOk result (λ said. option_map (λ b. b.items) said
-        ≡ element_said type.int8 (view value.now)) }
+fn bool_said(value: &Value) -> Option<[u8; 1]>
+    ensures { result ≡ element_said type.bool (view value.now) }
 {
-    match value.as_i64() {
-        Some(number) => {
-            if -128 <= number && number <= 127 {
-                made(alloc, &(number as i8).to_le_bytes())
-            } else {
-                Ok(None)
-            }
-        }
-        None => Ok(None),
-    }
+    Some([u8::from(value.as_bool()?)])
 }
 
-fn int16_said(alloc: Global, value: &Value) -> Result<Option<Vec<u8>>, AllocError>
-    ensures { IfOk result (λ said. option_map (λ b. b.items) said
-        ≡ element_said type.int16 (view value.now)) }
+fn int8_said(value: &Value) -> Option<[u8; 1]>
+    ensures { result ≡ element_said type.int8 (view value.now) }
 {
-    match value.as_i64() {
-        Some(number) => {
-            if -32_768 <= number && number <= 32_767 {
-                made(alloc, &(number as i16).to_le_bytes())
-            } else {
-                Ok(None)
-            }
-        }
-        None => Ok(None),
-    }
+    Some(i8::try_from(value.as_i64()?).ok()?.to_le_bytes())
 }
 
-fn int32_said(alloc: Global, value: &Value) -> Result<Option<Vec<u8>>, AllocError>
-    ensures { IfOk result (λ said. option_map (λ b. b.items) said
-        ≡ element_said type.int32 (view value.now)) }
+fn int16_said(value: &Value) -> Option<[u8; 2]>
+    ensures { result ≡ element_said type.int16 (view value.now) }
 {
-    match value.as_i64() {
-        Some(number) => {
-            if -2_147_483_648 <= number && number <= 2_147_483_647 {
-                made(alloc, &(number as i32).to_le_bytes())
-            } else {
-                Ok(None)
-            }
-        }
-        None => Ok(None),
-    }
+    Some(i16::try_from(value.as_i64()?).ok()?.to_le_bytes())
 }
 
-fn int64_said(alloc: Global, value: &Value) -> Result<Option<Vec<u8>>, AllocError>
-    ensures { IfOk result (λ said. option_map (λ b. b.items) said
-        ≡ element_said type.int64 (view value.now)) }
+fn int32_said(value: &Value) -> Option<[u8; 4]>
+    ensures { result ≡ element_said type.int32 (view value.now) }
 {
-    match value.as_i64() {
-        Some(number) => made(alloc, &number.to_le_bytes()),
-        None => Ok(None),
-    }
+    Some(i32::try_from(value.as_i64()?).ok()?.to_le_bytes())
 }
 
-fn uint8_said(alloc: Global, value: &Value) -> Result<Option<Vec<u8>>, AllocError>
-    ensures { IfOk result (λ said. option_map (λ b. b.items) said
-        ≡ element_said type.uint8 (view value.now)) }
+fn int64_said(value: &Value) -> Option<[u8; 8]>
+    ensures { result ≡ element_said type.int64 (view value.now) }
 {
-    match value.as_u64() {
-        Some(number) => {
-            if number <= 255 {
-                made(alloc, &(number as u8).to_le_bytes())
-            } else {
-                Ok(None)
-            }
-        }
-        None => Ok(None),
-    }
+    Some(value.as_i64()?.to_le_bytes())
 }
 
-fn uint16_said(alloc: Global, value: &Value) -> Result<Option<Vec<u8>>, AllocError>
-    ensures { IfOk result (λ said. option_map (λ b. b.items) said
-        ≡ element_said type.uint16 (view value.now)) }
+fn uint8_said(value: &Value) -> Option<[u8; 1]>
+    ensures { result ≡ element_said type.uint8 (view value.now) }
 {
-    match value.as_u64() {
-        Some(number) => {
-            if number <= 65_535 {
-                made(alloc, &(number as u16).to_le_bytes())
-            } else {
-                Ok(None)
-            }
-        }
-        None => Ok(None),
-    }
+    Some(u8::try_from(value.as_u64()?).ok()?.to_le_bytes())
 }
 
-fn uint32_said(alloc: Global, value: &Value) -> Result<Option<Vec<u8>>, AllocError>
-    ensures { IfOk result (λ said. option_map (λ b. b.items) said
-        ≡ element_said type.uint32 (view value.now)) }
+fn uint16_said(value: &Value) -> Option<[u8; 2]>
+    ensures { result ≡ element_said type.uint16 (view value.now) }
 {
-    match value.as_u64() {
-        Some(number) => {
-            if number <= 4_294_967_295 {
-                made(alloc, &(number as u32).to_le_bytes())
-            } else {
-                Ok(None)
-            }
-        }
-        None => Ok(None),
-    }
+    Some(u16::try_from(value.as_u64()?).ok()?.to_le_bytes())
 }
 
-fn uint64_said(alloc: Global, value: &Value) -> Result<Option<Vec<u8>>, AllocError>
-    ensures { IfOk result (λ said. option_map (λ b. b.items) said
-        ≡ element_said type.uint64 (view value.now)) }
+fn uint32_said(value: &Value) -> Option<[u8; 4]>
+    ensures { result ≡ element_said type.uint32 (view value.now) }
 {
-    match value.as_u64() {
-        Some(number) => made(alloc, &number.to_le_bytes()),
-        None => Ok(None),
-    }
+    Some(u32::try_from(value.as_u64()?).ok()?.to_le_bytes())
+}
+
+fn uint64_said(value: &Value) -> Option<[u8; 8]>
+    ensures { result ≡ element_said type.uint64 (view value.now) }
+{
+    Some(value.as_u64()?.to_le_bytes())
 }
 
 /// Returns the numbers as bytes, if each is one.
@@ -193,10 +128,12 @@ fn sized_said(alloc: Global, value: &Value, size: usize) -> Result<Option<Vec<u8
 }
 
 fn text_said(alloc: Global, value: &Value) -> Result<Option<Vec<u8>>, AllocError>
-    ensures { IfOk result (λ said. option_map (λ b. b.items) said ≡ text_said (view value.now)) }
+    ensures said { IfOk result (λ said. option_map (λ b. b.items) said
+        ≡ element_said type.string (view value.now)) }
+    ensures text { IfOk result (λ said. IfSome said (λ b. is_utf8 b.items ≡ true)) }
 {
     match value.as_str() {
-        Some(text) => made(alloc, text.as_bytes()),
+        Some(text) => Ok(Some(Vec::from_slice(alloc, text.as_bytes())?)),
         None => Ok(None),
     }
 }
@@ -207,19 +144,21 @@ fn element_said(
     data_type: &DataType,
     value: &Value,
 ) -> Result<Option<Vec<u8>>, AllocError>
-    ensures { IfOk result (λ said. option_map (λ b. b.items) said
+    ensures said { IfOk result (λ said. option_map (λ b. b.items) said
         ≡ element_said (kind data_type.now) (view value.now)) }
+    ensures text { IfOk result (λ said. kind data_type.now ≡ type.string
+        → IfSome said (λ b. is_utf8 b.items ≡ true)) }
 {
     match data_type {
-        DataType::Bool => bool_said(alloc, value),
-        DataType::Int8 => int8_said(alloc, value),
-        DataType::Int16 => int16_said(alloc, value),
-        DataType::Int32 => int32_said(alloc, value),
-        DataType::Int64 => int64_said(alloc, value),
-        DataType::UInt8 => uint8_said(alloc, value),
-        DataType::UInt16 => uint16_said(alloc, value),
-        DataType::UInt32 => uint32_said(alloc, value),
-        DataType::UInt64 => uint64_said(alloc, value),
+        DataType::Bool => listed(alloc, bool_said(value)),
+        DataType::Int8 => listed(alloc, int8_said(value)),
+        DataType::Int16 => listed(alloc, int16_said(value)),
+        DataType::Int32 => listed(alloc, int32_said(value)),
+        DataType::Int64 => listed(alloc, int64_said(value)),
+        DataType::UInt8 => listed(alloc, uint8_said(value)),
+        DataType::UInt16 => listed(alloc, uint16_said(value)),
+        DataType::UInt32 => listed(alloc, uint32_said(value)),
+        DataType::UInt64 => listed(alloc, uint64_said(value)),
         DataType::Raw(size) => sized_said(alloc, value, size.get()),
         DataType::String => text_said(alloc, value),
         DataType::Bytes => bytes_said(alloc, value),
@@ -258,12 +197,14 @@ fn fill_said(
     data_type: &DataType,
     value: &Value,
 ) -> Result<Option<Vec<u8>>, AllocError>
-    ensures { IfOk result (λ said. option_map (λ b. b.items) said
+    ensures said { IfOk result (λ said. option_map (λ b. b.items) said
         ≡ fill_said (kind data_type.now) (view value.now)) }
+    ensures value { IfOk result (λ said. IfSome said
+        (λ b. IsSome (fill_cell (kind data_type.now) b.items))) }
 {
     match data_type {
         DataType::Optional(inner) => match value {
-            Value::Null => made(alloc, &[0]),
+            Value::Null => listed(alloc, Some([0])),
             Value::Array(items) => match sole_item(items) {
                 Some(item) => some_of(fill_said(alloc, inner, item)?),
                 None => Ok(None),

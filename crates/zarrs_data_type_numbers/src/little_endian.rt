@@ -6,13 +6,27 @@ ghost use Rattle.std.specs.List.{flat_map};
 use crate::writing::Writing;
 use std::alloc::{AllocError, Global};
 
-/// A number that is read from `N` bytes.
+/// A number of `N` bytes.
 pub(crate) trait LittleEndian<const N: usize>: Copy + Drop {
     // Its bytes, the lowest first.
     ghost le_bytes: { Self → List ℕ };
 
+    fn to_le(self) -> [u8; N]
+        ensures { result ≡ le_bytes self };
+
     fn from_le(cell: &[u8; N]) -> Self
         ensures { Self.le_bytes result ≡ cell.now };
+}
+
+/// A number is written as its bytes, the lowest first.
+pub(crate) struct LowestFirst;
+
+impl<T: LittleEndian<N>, const N: usize> Writing<T, N> for LowestFirst {
+    ghost written = { T.le_bytes };
+
+    fn write(number: &T) -> [u8; N] {
+        number.to_le()
+    }
 }
 
 /// The numbers of these bytes.
@@ -33,128 +47,96 @@ pub(crate) fn from_bytes<T: LittleEndian<N>, const N: usize>(
     Ok(numbers)
 }
 
-impl Writing<u8, 1> for u8 {
-    ghost written = { λ x. x ∷ [] };
-
-    fn write(number: &u8) -> [u8; 1] {
-        number.to_le_bytes()
-    }
-}
-
 impl LittleEndian<1> for u8 {
     ghost le_bytes = { λ x. x ∷ [] };
+
+    fn to_le(self) -> [u8; 1] {
+        self.to_le_bytes()
+    }
 
     fn from_le(cell: &[u8; 1]) -> u8 {
         u8::from_le_bytes(*cell)
     }
 }
 
-impl Writing<u16, 2> for u16 {
-    ghost written = { λ x. to_le_bytes w16 x };
-
-    fn write(number: &u16) -> [u8; 2] {
-        number.to_le_bytes()
-    }
-}
-
 impl LittleEndian<2> for u16 {
     ghost le_bytes = { λ x. to_le_bytes w16 x };
+
+    fn to_le(self) -> [u8; 2] {
+        self.to_le_bytes()
+    }
 
     fn from_le(cell: &[u8; 2]) -> u16 {
         u16::from_le_bytes(*cell)
     }
 }
 
-impl Writing<u32, 4> for u32 {
-    ghost written = { λ x. to_le_bytes w32 x };
-
-    fn write(number: &u32) -> [u8; 4] {
-        number.to_le_bytes()
-    }
-}
-
 impl LittleEndian<4> for u32 {
     ghost le_bytes = { λ x. to_le_bytes w32 x };
+
+    fn to_le(self) -> [u8; 4] {
+        self.to_le_bytes()
+    }
 
     fn from_le(cell: &[u8; 4]) -> u32 {
         u32::from_le_bytes(*cell)
     }
 }
 
-impl Writing<u64, 8> for u64 {
-    ghost written = { λ x. to_le_bytes w64 x };
-
-    fn write(number: &u64) -> [u8; 8] {
-        number.to_le_bytes()
-    }
-}
-
 impl LittleEndian<8> for u64 {
     ghost le_bytes = { λ x. to_le_bytes w64 x };
+
+    fn to_le(self) -> [u8; 8] {
+        self.to_le_bytes()
+    }
 
     fn from_le(cell: &[u8; 8]) -> u64 {
         u64::from_le_bytes(*cell)
     }
 }
 
-impl Writing<i8, 1> for i8 {
-    ghost written = { λ x. cast_unsigned w8 x ∷ [] };
-
-    fn write(number: &i8) -> [u8; 1] {
-        number.to_le_bytes()
-    }
-}
-
 impl LittleEndian<1> for i8 {
     ghost le_bytes = { λ x. cast_unsigned w8 x ∷ [] };
+
+    fn to_le(self) -> [u8; 1] {
+        self.to_le_bytes()
+    }
 
     fn from_le(cell: &[u8; 1]) -> i8 {
         i8::from_le_bytes(*cell)
     }
 }
 
-impl Writing<i16, 2> for i16 {
-    ghost written = { λ x. to_le_bytes w16 (cast_unsigned w16 x) };
-
-    fn write(number: &i16) -> [u8; 2] {
-        number.to_le_bytes()
-    }
-}
-
 impl LittleEndian<2> for i16 {
     ghost le_bytes = { λ x. to_le_bytes w16 (cast_unsigned w16 x) };
+
+    fn to_le(self) -> [u8; 2] {
+        self.to_le_bytes()
+    }
 
     fn from_le(cell: &[u8; 2]) -> i16 {
         i16::from_le_bytes(*cell)
     }
 }
 
-impl Writing<i32, 4> for i32 {
-    ghost written = { λ x. to_le_bytes w32 (cast_unsigned w32 x) };
-
-    fn write(number: &i32) -> [u8; 4] {
-        number.to_le_bytes()
-    }
-}
-
 impl LittleEndian<4> for i32 {
     ghost le_bytes = { λ x. to_le_bytes w32 (cast_unsigned w32 x) };
+
+    fn to_le(self) -> [u8; 4] {
+        self.to_le_bytes()
+    }
 
     fn from_le(cell: &[u8; 4]) -> i32 {
         i32::from_le_bytes(*cell)
     }
 }
 
-impl Writing<i64, 8> for i64 {
-    ghost written = { λ x. to_le_bytes w64 (cast_unsigned w64 x) };
-
-    fn write(number: &i64) -> [u8; 8] {
-        number.to_le_bytes()
-    }
-}
-
 impl LittleEndian<8> for i64 {
     ghost le_bytes = { λ x. to_le_bytes w64 (cast_unsigned w64 x) };
+
+    fn to_le(self) -> [u8; 8] {
+        self.to_le_bytes()
+    }
 
     fn from_le(cell: &[u8; 8]) -> i64 {
         i64::from_le_bytes(*cell)

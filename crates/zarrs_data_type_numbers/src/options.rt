@@ -7,15 +7,15 @@ use crate::little_endian::LittleEndian;
 use crate::writing::Writing;
 use std::alloc::{AllocError, Global};
 
-/// An option is written as its value, or as zeros.
+/// An option is written as its number, or as zeros.
 pub(crate) struct OrZeros;
 
-impl<V: Writing<V, N>, const N: usize> Writing<Option<V>, N> for OrZeros {
-    ghost written = { option_bytes N V.written };
+impl<T: LittleEndian<N>, const N: usize> Writing<Option<T>, N> for OrZeros {
+    ghost written = { option_bytes N T.le_bytes };
 
-    fn write(option: &Option<V>) -> [u8; N] {
+    fn write(option: &Option<T>) -> [u8; N] {
         match option {
-            Some(value) => V::write(value),
+            Some(number) => number.to_le(),
             None => [0; N],
         }
     }

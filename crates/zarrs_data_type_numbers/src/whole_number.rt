@@ -5,7 +5,7 @@ ghost use Rattle.std.specs.Int.{w8, w16, w32, w64, cast_unsigned, to_le_bytes};
 ghost use Rattle.std.specs.List.{flat_map};
 ghost use Rattle.zarrs_data_type_numbers.specs.Options.{option_bytes, option_flag};
 
-use crate::little_endian::from_bytes;
+use crate::little_endian::{LowestFirst, from_bytes};
 use crate::options::{OrZeros, options_from_bytes};
 use crate::writing::written;
 use std::alloc::{AllocError, Global};
@@ -70,7 +70,7 @@ impl WholeNumber for u8 {
     ghost sized = { λ number. refl };
 
     fn to_bytes(alloc: Global, numbers: &[u8]) -> Result<Vec<u8>, AllocError> {
-        written::<u8, u8, 1>(alloc, numbers)
+        written::<LowestFirst, u8, 1>(alloc, numbers)
     }
 
     fn from_bytes(alloc: Global, bytes: &[u8]) -> Result<Vec<u8>, AllocError> {
@@ -98,7 +98,7 @@ impl WholeNumber for u16 {
     ghost sized = { λ number. refl };
 
     fn to_bytes(alloc: Global, numbers: &[u16]) -> Result<Vec<u8>, AllocError> {
-        written::<u16, u16, 2>(alloc, numbers)
+        written::<LowestFirst, u16, 2>(alloc, numbers)
     }
 
     fn from_bytes(alloc: Global, bytes: &[u8]) -> Result<Vec<u16>, AllocError> {
@@ -126,7 +126,7 @@ impl WholeNumber for u32 {
     ghost sized = { λ number. refl };
 
     fn to_bytes(alloc: Global, numbers: &[u32]) -> Result<Vec<u8>, AllocError> {
-        written::<u32, u32, 4>(alloc, numbers)
+        written::<LowestFirst, u32, 4>(alloc, numbers)
     }
 
     fn from_bytes(alloc: Global, bytes: &[u8]) -> Result<Vec<u32>, AllocError> {
@@ -154,7 +154,7 @@ impl WholeNumber for u64 {
     ghost sized = { λ number. refl };
 
     fn to_bytes(alloc: Global, numbers: &[u64]) -> Result<Vec<u8>, AllocError> {
-        written::<u64, u64, 8>(alloc, numbers)
+        written::<LowestFirst, u64, 8>(alloc, numbers)
     }
 
     fn from_bytes(alloc: Global, bytes: &[u8]) -> Result<Vec<u64>, AllocError> {
@@ -182,7 +182,7 @@ impl WholeNumber for i8 {
     ghost sized = { λ number. refl };
 
     fn to_bytes(alloc: Global, numbers: &[i8]) -> Result<Vec<u8>, AllocError> {
-        written::<i8, i8, 1>(alloc, numbers)
+        written::<LowestFirst, i8, 1>(alloc, numbers)
     }
 
     fn from_bytes(alloc: Global, bytes: &[u8]) -> Result<Vec<i8>, AllocError> {
@@ -210,7 +210,7 @@ impl WholeNumber for i16 {
     ghost sized = { λ number. refl };
 
     fn to_bytes(alloc: Global, numbers: &[i16]) -> Result<Vec<u8>, AllocError> {
-        written::<i16, i16, 2>(alloc, numbers)
+        written::<LowestFirst, i16, 2>(alloc, numbers)
     }
 
     fn from_bytes(alloc: Global, bytes: &[u8]) -> Result<Vec<i16>, AllocError> {
@@ -238,7 +238,7 @@ impl WholeNumber for i32 {
     ghost sized = { λ number. refl };
 
     fn to_bytes(alloc: Global, numbers: &[i32]) -> Result<Vec<u8>, AllocError> {
-        written::<i32, i32, 4>(alloc, numbers)
+        written::<LowestFirst, i32, 4>(alloc, numbers)
     }
 
     fn from_bytes(alloc: Global, bytes: &[u8]) -> Result<Vec<i32>, AllocError> {
@@ -266,7 +266,7 @@ impl WholeNumber for i64 {
     ghost sized = { λ number. refl };
 
     fn to_bytes(alloc: Global, numbers: &[i64]) -> Result<Vec<u8>, AllocError> {
-        written::<i64, i64, 8>(alloc, numbers)
+        written::<LowestFirst, i64, 8>(alloc, numbers)
     }
 
     fn from_bytes(alloc: Global, bytes: &[u8]) -> Result<Vec<i64>, AllocError> {

@@ -29,11 +29,12 @@ pub fn written<W: Writing<V, N>, V, const N: usize>(
     ensures items { IfOk result (λ made. made.items ≡ flat_map W.written values.now) }
     ensures len { IfOk result (λ made. length made.items ≡ length values.now * N) }
 {
+    let room = values.len().min(BLOCK);
     let mut left = values;
     let mut made = Vec::with_capacity(alloc, values.len().saturating_mul(N))?;
-    let mut block = Vec::with_capacity(alloc, BLOCK)?;
+    let mut block = Vec::with_capacity(alloc, room)?;
     while !left.is_empty() {
-        let (values, rest) = left.split_at(left.len().min(BLOCK));
+        let (values, rest) = left.split_at(left.len().min(room));
         extend_written::<W, V, N>(&mut made, &mut block, values)?;
         left = rest;
     }

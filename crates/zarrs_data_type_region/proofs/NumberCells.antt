@@ -1,13 +1,13 @@
 -- Numbers as cells of 8 bytes.
-use Rattle.std.proofs.Common.{◌≡◌, ℕ, zero, suc, ◌∷◌, ◌*◌, ◌/◌, ◌%◌, ◌<◌, ◌≤◌, ◌^◌, Bool, true, false, cond, List, [], length, take}
+use Rattle.std.proofs.Common.{◌≡◌, ℕ, zero, suc, ◌∷◌, ◌*◌, ◌/◌, ◌%◌, ◌<◌, ◌≤◌, ◌^◌, ◌+◌, Bool, true, false, cond, List, [], length, map, take}
 use Rattle.std.proofs.Common.{drop, get_or, refl, sym, ap, ◌∙◌, arith, replicate, ◌++◌}
-use Rattle.std.specs.Prelude.{slice_index}
+use Rattle.std.specs.Prelude.{slice_index, slice_range}
 use Rattle.std.specs.Int.{w64, from_le_bytes, to_le_bytes}
-use Rattle.std.specs.List.{flat_map, repeat}
+use Rattle.std.specs.List.{flat_map, range_with_len, repeat}
 use Rattle.std.specs.Simd.{first_chunks}
 use Rattle.std.proofs.Math.Nat.{mul-div_cancel, suc-mul}
-use Rattle.std.proofs.lemmas.List.{ext_get_or, get_or-map, get_or-replicate, length-drop, length-replicate, length-take-le, take-append-drop}
-use Rattle.std.proofs.lemmas.List.FromFn.{length-map-range_with_len, get_or-map-range_with_len}
+use Rattle.std.proofs.lemmas.List.{ext_get_or, get_or-map, get_or-replicate, length-append, length-drop, length-replicate, length-take-le, take-append-drop}
+use Rattle.std.proofs.lemmas.List.FromFn.{length-map-range_with_len, get_or-map-range_with_len, map-range_with_len_more}
 use Rattle.std.proofs.lemmas.Nat.{from_le_bytes-to_le_bytes_8}
 use Rattle.zarrs_subset.specs.Boxes.{position_count}
 use Rattle.zarrs_subset.specs.Pieces.{piece_at, pieces}
@@ -15,7 +15,9 @@ use Rattle.zarrs_subset.specs.Regions.{Box, IsLong, in_box, place_in}
 use Rattle.zarrs_subset.proofs.Bytes.{place_in_below}
 use Rattle.zarrs_data_type_bytes.specs.Parts.{TakesAt}
 use Rattle.zarrs_data_type_bytes.proofs.Pieces.{length-flat_map_same, pieces-cons, pieces-flat_map, repeat_same}
+use Rattle.zarrs_data_type_bytes.proofs.ByteStrings.{slice_range-front}
 use Rattle.zarrs_data_type_region.specs.Places.{numbers_in}
+use Rattle.zarrs_data_type_region.proofs.Placed.{slice_range-past}
 
 pub length_numbers : (bytes : List ℕ) → length (numbers_in bytes) ≡ length bytes / 8
 length_numbers bytes = length-map-range_with_len (λ k. from_le_bytes w64 (piece_at 8 bytes k)) 0 (length bytes / 8)
@@ -72,6 +74,38 @@ numbers-written ns small =
     ∙ ap (λ l. get_or l k []) (pieces-flat_map (to_le_bytes w64) 8 ns (λ j d lt. refl))
     ∙ get_or-map (to_le_bytes w64) ns k 0 [] here in
     number_at bytes k (omega (arith, count)) ∙ ap (from_le_bytes w64) at ∙ from_le_bytes-to_le_bytes_8 (get_or ns k 0) (small k here))
+
+-- one number more
+pub numbers-push : (bytes : List ℕ) (n : ℕ) → length bytes % 8 ≡ 0 → n < 2 ^ 64 → numbers_in (bytes ++ to_le_bytes w64 n) ≡ numbers_in bytes ++ n ∷ []
+numbers-push bytes n whole small =
+    let cell = to_le_bytes w64 n in
+    let all = bytes ++ cell in
+    let count = length bytes / 8 in
+    let read : ℕ → ℕ = λ k. from_le_bytes w64 (piece_at 8 all k) in
+    let long : length all ≡ length bytes + 8 = length-append bytes cell in
+    let more : length all / 8 ≡ count + 1 = omega arith in
+    let held : count * 8 ≡ length bytes = omega arith in
+    let front : map read (range_with_len 0 count) ≡ numbers_in bytes =
+    ext_get_or 0 (map read (range_with_len 0 count)) (numbers_in bytes) (length-map-range_with_len read 0 count ∙ sym (length_numbers bytes))
+    (λ k lt.
+    let here : k < count = omega (arith, length-map-range_with_len read 0 count) in
+    get_or-map-range_with_len read 0 count k k 0 here (omega arith)
+    ∙ ap (from_le_bytes w64) (slice_range-front bytes cell (k * 8) (k * 8 + 8) (omega arith) (omega arith))
+    ∙ sym (number_at bytes k here)) in
+    let last : piece_at 8 all count ≡ cell =
+    ap (λ m. slice_range all m (m + 8)) (held ∙ sym (add_none (length bytes)))
+    ∙ ap (λ m. slice_range all (length bytes + 0) m) (ends (length bytes))
+    ∙ slice_range-past bytes cell 0 8 in
+    ap (λ m. map read (range_with_len 0 m)) more
+    ∙ map-range_with_len_more read 0 count count (omega arith)
+    ∙ ap (λ l. l ++ read count ∷ []) front
+    ∙ ap (λ m. numbers_in bytes ++ m ∷ []) (ap (from_le_bytes w64) last ∙ from_le_bytes-to_le_bytes_8 n small)
+  where
+    add_none : (m : ℕ) → m + 0 ≡ m
+    add_none m = omega arith
+
+    ends : (m : ℕ) → m + 0 + 8 ≡ m + 8
+    ends m = omega arith
 
 pub whole-written : (ns : List ℕ) → length (flat_map (to_le_bytes w64) ns) % 8 ≡ 0
 whole-written ns = omega (arith, length-all_written ns)

@@ -57,7 +57,7 @@ places-replicate string n = record {
 -- ---- byte strings put behind the bytes
 
 -- a slice of what stands behind
-slice_range-past : (xs ys : List ℕ) (a b : ℕ) → slice_range (xs ++ ys) (length xs + a) (length xs + b) ≡ slice_range ys a b
+pub slice_range-past : (xs ys : List ℕ) (a b : ℕ) → slice_range (xs ++ ys) (length xs + a) (length xs + b) ≡ slice_range ys a b
 slice_range-past xs ys a b =
     let n : length xs + b - (length xs + a) ≡ b - a = omega arith in
     ap (λ k. take k (drop (length xs + a) (xs ++ ys))) n ∙ ap (take (b - a)) (drop-append-add xs ys a)

@@ -9,11 +9,9 @@ ghost use Rattle.zarrs_subset.specs.Regions.{box_of};
 ghost use Rattle.zarrs_data_type_kinds.specs.Cell.{fill_cell, fill_of};
 ghost use Rattle.zarrs_data_type_kinds.specs.Kind.{kind, fixed_size};
 
-use crate::flags::Flags;
 use crate::strings::PlacedStrings;
 use std::alloc::{AllocError, Global};
-use std::borrow::CowSlice;
-use zarrs_data_type_bytes::ArrayBytes;
+use zarrs_data_type_bytes::{ArrayBytes, Mask};
 use zarrs_data_type_kinds::{DataType, inner_fill};
 use zarrs_subset::ArraySubset;
 
@@ -32,7 +30,7 @@ pub(crate) enum Level {
 #[derive(Debug, Drop)]
 pub(crate) struct MaskedLevel {
     inner: Box<Level>,
-    mask: Flags,
+    mask: Mask<'static>,
 }
 
 impl Level {
@@ -89,7 +87,7 @@ impl Level {
         ensures { IfOk result (λ made. level_data made
             ≡ optional (replicate count flag) (level_data self)) }
     {
-        let mask = Flags::repeated(alloc, flag, count)?;
+        let mask = Mask::repeated(alloc, flag, count)?;
         Ok(Level::Masked(MaskedLevel {
             inner: Box::new(alloc, self)?,
             mask,
@@ -147,7 +145,7 @@ impl Level {
                     unreachable!()
                 };
                 let MaskedLevel { inner, mask } = masked;
-                let mask = mask.with_part(held_box, given.mask(), part_box);
+                let mask = mask.with_part(alloc, held_box, given.mask(), part_box)?;
                 let inner = Box::into_inner(inner).put_part(
                     alloc,
                     inner_type,
@@ -172,7 +170,7 @@ impl Level {
             Level::Masked(masked) => {
                 let MaskedLevel { inner, mask } = masked;
                 let inner = Box::into_inner(inner).into_array_bytes(alloc)?;
-                inner.with_optional_mask(alloc, CowSlice::Owned(mask.into_bytes()))
+                inner.with_optional_mask(alloc, mask.into_bytes())
             }
         }
     }

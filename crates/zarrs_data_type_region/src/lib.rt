@@ -11,10 +11,8 @@
 //! stays (`KeepsOutside`).
 #![tactic(auto)]
 
-mod boxes;
 mod error;
 mod fill;
-mod flags;
 mod levels;
 mod numbers;
 mod region_cells;

@@ -1,12 +1,12 @@
 //! Numbers over boxes.
-ghost use Rattle.std.specs.Prelude.{◌≡◌, ◌<◌, IfOk, length, replicate, slice_index};
+ghost use Rattle.std.specs.Prelude.{◌≡◌, ◌<◌, [], ◌∷◌, ◌++◌, IfOk, OnOk, length, replicate, slice_index};
 ghost use Rattle.zarrs_data_type_bytes.specs.Parts.{TakesAt};
 ghost use Rattle.zarrs_subset.specs.Boxes.{position_count};
 ghost use Rattle.zarrs_subset.specs.Regions.{box_of};
 
-use crate::boxes::bytes_with_part;
 use std::alloc::{AllocError, Global};
 use std::marker::Model;
+use zarrs_data_type_bytes::bytes_with_part;
 use zarrs_data_type_numbers::convert_to_bytes_vec;
 use zarrs_subset::ArraySubset;
 
@@ -35,6 +35,22 @@ impl Numbers {
     {
         let bytes = convert_to_bytes_vec::<u64>(alloc, numbers)?;
         Ok(Numbers { bytes })
+    }
+
+    /// No numbers, with room for `count`.
+    pub(crate) fn with_room(alloc: Global, count: usize) -> Result<Numbers, AllocError>
+        ensures { IfOk result (λ made. made ≡ []) }
+    {
+        let bytes = Vec::with_capacity(alloc, count.saturating_mul(8))?;
+        Ok(Numbers { bytes })
+    }
+
+    /// Puts one more number behind the others.
+    #[inline]
+    pub(crate) fn push(&mut self, number: u64) -> Result<(), AllocError>
+        ensures { OnOk result (self.new ≡ self.old ++ number ∷ []) }
+    {
+        self.bytes.extend_from_slice(&number.to_le_bytes())
     }
 
     /// The number, `count` times.

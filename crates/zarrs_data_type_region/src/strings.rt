@@ -202,11 +202,11 @@ fn starts_from(
 {
     let cuts = strings.offsets().as_slice();
     let count = strings.len();
-    let mut starts = Vec::with_capacity(alloc, count)?;
+    let mut starts = Numbers::with_room(alloc, count)?;
     for index in 0..count {
-        starts.push_reserved((from + cuts[index]) as u64);
+        starts.push((from + cuts[index]) as u64)?;
     }
-    Numbers::new(alloc, starts.as_slice())
+    Ok(starts)
 }
 
 /// The length of each byte string.
@@ -215,11 +215,11 @@ fn lens_of(alloc: Global, strings: &ArrayBytesVariableLength<'_>) -> Result<Numb
 {
     let cuts = strings.offsets().as_slice();
     let count = strings.len();
-    let mut lens = Vec::with_capacity(alloc, count)?;
+    let mut lens = Numbers::with_room(alloc, count)?;
     for index in 0..count {
-        lens.push_reserved((cuts[index + 1] - cuts[index]) as u64);
+        lens.push((cuts[index + 1] - cuts[index]) as u64)?;
     }
-    Numbers::new(alloc, lens.as_slice())
+    Ok(lens)
 }
 
 /// The positions that two boxes of the same number of dimensions share.

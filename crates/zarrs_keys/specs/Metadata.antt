@@ -31,13 +31,9 @@ suffix_named text = if is_suffix text then Some text else None
 abbrev pub suffix_in : Members → Option (List ℕ)
 suffix_in configuration = option_and_then suffix_named (option_and_then as_str (get_member (codes "suffix") configuration))
 
--- the `default` encoding; an absent separator is `/`
-abbrev pub default_of : Members → Option ChunkKeyEncoding
-default_of configuration = if has_only (codes "separator" ∷ []) configuration then option_map Default (separator_in Slash configuration) else None
-
--- the `v2` encoding; an absent separator is `.`
-abbrev pub v2_of : Members → Option ChunkKeyEncoding
-v2_of configuration = if has_only (codes "separator" ∷ []) configuration then option_map V2 (separator_in Dot configuration) else None
+-- the separator of a configuration that has no other member
+abbrev pub separator_alone : ChunkKeySeparator → Members → Option ChunkKeySeparator
+separator_alone absent configuration = if has_only (codes "separator" ∷ []) configuration then separator_in absent configuration else None
 
 -- the `default_suffix` encoding; an absent separator is `/`, and the suffix is not absent
 abbrev pub default_suffix_of : Members → Option ChunkKeyEncoding
@@ -47,11 +43,11 @@ default_suffix_of configuration =
       suffix ← suffix_in configuration
       Some (DefaultSuffix separator suffix)) else None
 
--- the encoding of this name, with this configuration
+-- The encoding of this name, with this configuration. An absent separator is `/` under `default`, and `.` under `v2`.
 abbrev pub encoding_named : List ℕ → Members → Option ChunkKeyEncoding
 encoding_named name configuration =
-    if bytes_eq name (codes "default") then default_of configuration
-    else if bytes_eq name (codes "v2") then v2_of configuration
+    if bytes_eq name (codes "default") then option_map Default (separator_alone Slash configuration)
+    else if bytes_eq name (codes "v2") then option_map V2 (separator_alone Dot configuration)
     else if bytes_eq name (codes "default_suffix") || bytes_eq name (codes "zarrs.default_suffix") then default_suffix_of configuration
     else None
 

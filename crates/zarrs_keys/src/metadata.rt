@@ -3,8 +3,8 @@ ghost use Rattle.std.specs.Prelude.{◌≡◌, Some, IfOk, IfErr};
 ghost use Rattle.serde_json.specs.Data.{no_members};
 ghost use Rattle.zarrs_metadata_parts.specs.Extension.{settings, extension_view};
 ghost use Rattle.zarrs_metadata_parts.specs.Refusals.{RefusesMeaning};
-ghost use Rattle.zarrs_keys.specs.Metadata.{separator_in, suffix_named, suffix_in, default_of};
-ghost use Rattle.zarrs_keys.specs.Metadata.{v2_of, default_suffix_of, key_encoding_of, configured};
+ghost use Rattle.zarrs_keys.specs.Metadata.{separator_alone, separator_in, suffix_named, suffix_in};
+ghost use Rattle.zarrs_keys.specs.Metadata.{default_suffix_of, key_encoding_of, configured};
 ghost use Rattle.zarrs_keys.specs.Metadata.{separator_member, extension_of_encoding};
 
 use crate::encodings::ChunkKeyEncoding;
@@ -45,26 +45,14 @@ fn suffix_in(alloc: Global, metadata: &MetadataV3) -> Result<Option<KeySuffix>, 
     }
 }
 
-/// Returns the `default` encoding with this configuration, if it is one of it.
-fn default_of(metadata: &MetadataV3) -> Option<ChunkKeyEncoding>
-    ensures { result ≡ default_of (settings (extension_view metadata.now)) }
+/// Returns the separator of a configuration that has no other member, or `absent` if it has none.
+fn separator_alone(absent: ChunkKeySeparator, metadata: &MetadataV3) -> Option<ChunkKeySeparator>
+    ensures { result ≡ separator_alone absent (settings (extension_view metadata.now)) }
 {
     if !metadata.has_only(&["separator"]) {
         return None;
     }
-    let separator = separator_in(ChunkKeySeparator::Slash, metadata)?;
-    Some(ChunkKeyEncoding::Default(separator))
-}
-
-/// Returns the `v2` encoding with this configuration, if it is one of it.
-fn v2_of(metadata: &MetadataV3) -> Option<ChunkKeyEncoding>
-    ensures { result ≡ v2_of (settings (extension_view metadata.now)) }
-{
-    if !metadata.has_only(&["separator"]) {
-        return None;
-    }
-    let separator = separator_in(ChunkKeySeparator::Dot, metadata)?;
-    Some(ChunkKeyEncoding::V2(separator))
+    separator_in(absent, metadata)
 }
 
 /// Returns the `default_suffix` encoding with this configuration, if it is one of it.
@@ -92,8 +80,14 @@ fn encoding_of(alloc: Global, metadata: &MetadataV3) -> Result<Option<ChunkKeyEn
     ensures { IfOk result (λ encoding. encoding ≡ key_encoding_of (extension_view metadata.now)) }
 {
     match metadata.name() {
-        "default" => Ok(default_of(metadata)),
-        "v2" => Ok(v2_of(metadata)),
+        "default" => {
+            let separator = separator_alone(ChunkKeySeparator::Slash, metadata);
+            Ok(separator.map(ChunkKeyEncoding::Default))
+        }
+        "v2" => {
+            let separator = separator_alone(ChunkKeySeparator::Dot, metadata);
+            Ok(separator.map(ChunkKeyEncoding::V2))
+        }
         "default_suffix" | "zarrs.default_suffix" => default_suffix_of(alloc, metadata),
         _ => Ok(None),
     }

@@ -1,19 +1,15 @@
 -- Filters, and the numbers that count down.
-use Rattle.std.proofs.Common.{◌≡◌, ℕ, suc, List, [], ◌∷◌, length, ◌==◌, false, refl, arith}
-use Rattle.std.proofs.lemmas.Bool.{ne_eqb}
+use Rattle.std.proofs.Common.{◌≡◌, ℕ, suc, List, [], ◌∷◌, length, false, refl}
 use Rattle.serde_json.specs.Data.{array}
 use Rattle.serde_json.specs.View.{items_view}
 use Rattle.serde_json.specs.declared.value.Value.{Value}
-use Rattle.zarrs_metadata.specs.Conversion.{has_no_filter, has_text_filter, count_down}
+use Rattle.zarrs_metadata_parts.specs.declared.types_v2.KindV2.{KindV2}
+use Rattle.zarrs_metadata.specs.Conversion.{has_filters_of, count_down}
 
-pub no_filters : (items : List Value) → (length items == 0) ≡ has_no_filter (array (items_view items))
-no_filters [] = refl
-no_filters (v ∷ vs) = ne_eqb (length (v ∷ vs)) 0 (λ none. absurd (omega arith))
-
-pub other_filters : (items : List Value) → (length items ≡ 1 → ⊥) → false ≡ has_text_filter (array (items_view items))
-other_filters [] other = refl
-other_filters (v ∷ []) other = absurd (other refl)
-other_filters (v ∷ w ∷ vs) other = refl
+pub other_filters : (k : KindV2) (items : List Value) → (length items ≡ 0 → ⊥) → (length items ≡ 1 → ⊥) → false ≡ has_filters_of k (array (items_view items))
+other_filters k [] some many = absurd (some refl)
+other_filters k (v ∷ []) some many = absurd (many refl)
+other_filters k (v ∷ w ∷ vs) some many = refl
 
 pub count_down_step : (n m : ℕ) → n ≡ suc m → count_down n ≡ m ∷ count_down m
 count_down_step n m is = rw is refl

@@ -1,11 +1,11 @@
 -- A V2 document as a V3 document, and why one has none.
-use Rattle.std.specs.Prelude.{ℕ, zero, suc, length, List, [], ◌∷◌, ◌&&◌, Bool, true, false, codes, if◌then◌else◌}
+use Rattle.std.specs.Prelude.{ℕ, zero, suc, length, List, [], ◌∷◌, ◌&&◌, Bool, false, not, codes, if◌then◌else◌}
 use Rattle.std.specs.Prelude.{Option, Some, None, option_map, unwrap_or, is_some, Result, Ok, Err}
-use Rattle.serde_json.specs.Data.{Data, null, boolean, number, string, array, object, no_items, item, no_members, member}
+use Rattle.serde_json.specs.Data.{Data, null, boolean, number, string, array, object, no_items, item}
 use Rattle.serde_json.specs.Find.{get_member, as_null, as_object}
 use Rattle.zarrs_metadata_parts.specs.Members.{has_only}
 use Rattle.zarrs_metadata_parts.specs.Lists.{numbers_data}
-use Rattle.zarrs_metadata_parts.specs.Extension.{ExtensionData, named}
+use Rattle.zarrs_metadata_parts.specs.Extension.{ExtensionData, named, extension_with_member}
 use Rattle.zarrs_metadata_parts.specs.Separator.{separator_data}
 use Rattle.zarrs_metadata_v3.specs.Members.{reads_as_text}
 use Rattle.zarrs_metadata_v3.specs.Document.{DocumentData}
@@ -32,38 +32,20 @@ abbrev pub is_vlen_utf8 : Data → Bool
 is_vlen_utf8 d =
     unwrap_or (option_map (λ ms. reads_as_text (codes "vlen-utf8") (get_member (codes "id") ms) && has_only (codes "id" ∷ []) ms) (as_object d)) false
 
--- no filter: null or an empty list
-abbrev pub has_no_filter : Data → Bool
-has_no_filter null = true
-has_no_filter (array no_items) = true
-has_no_filter (array (item d ds)) = false
-has_no_filter (boolean b) = false
-has_no_filter (number n) = false
-has_no_filter (string text) = false
-has_no_filter (object ms) = false
-
--- the one filter of texts
-abbrev pub has_text_filter : Data → Bool
-has_text_filter (array (item d no_items)) = is_vlen_utf8 d
-has_text_filter (array no_items) = false
-has_text_filter (array (item d (item e ds))) = false
-has_text_filter null = false
-has_text_filter (boolean b) = false
-has_text_filter (number n) = false
-has_text_filter (string text) = false
-has_text_filter (object ms) = false
-
--- the filters that cells of this kind need
+-- the filters that cells of this kind need: of texts the one of texts, else none, which null says too
 abbrev pub has_filters_of : KindV2 → Data → Bool
-has_filters_of k d = if is_text_kind k then has_text_filter d else has_no_filter d
+has_filters_of k null = not (is_text_kind k)
+has_filters_of k (array no_items) = not (is_text_kind k)
+has_filters_of k (array (item d no_items)) = is_text_kind k && is_vlen_utf8 d
+has_filters_of k (array (item d (item e ds))) = false
+has_filters_of k (boolean b) = false
+has_filters_of k (number n) = false
+has_filters_of k (string text) = false
+has_filters_of k (object ms) = false
 
 -- no compressor, and the filters of the kind
 abbrev pub is_uncompressed : KindV2 → DocumentV2Data → Bool
 is_uncompressed k m = is_some (as_null m.compressor) && has_filters_of k m.filters
-
--- an extension of this name with one member in its configuration
-abbrev pub extension_with_member : List ℕ → List ℕ → Data → ExtensionData
-extension_with_member name key d = record { name = name; configuration = Some (member key d no_members); must_understand = true }
 
 abbrev pub endian_name_v2 : EndianV2 → List ℕ
 endian_name_v2 Little = codes "little"

@@ -3,14 +3,11 @@ ghost use Rattle.std.specs.Prelude.{◌≡◌, ◌∷◌, [], map, length, codes
 ghost use Rattle.serde_json.specs.Data.{array};
 ghost use Rattle.serde_json.specs.Find.{get_member};
 ghost use Rattle.serde_json.specs.View.{view, items_view, members_view};
-ghost use Rattle.zarrs_metadata_parts.specs.Members.{is_named, has_only};
 ghost use Rattle.zarrs_metadata_v3.specs.Members.{reads_as_text};
 ghost use Rattle.zarrs_metadata_parts.specs.Extension.{extension_view};
 ghost use Rattle.zarrs_metadata_parts.specs.FillValue.{fill_data};
 ghost use Rattle.zarrs_metadata_v3.specs.View.{document_view};
-ghost use Rattle.zarrs_metadata.specs.Conversion.{is_vlen_utf8, has_no_filter, has_text_filter};
-ghost use Rattle.zarrs_metadata.specs.Conversion.{has_filters_of, is_uncompressed};
-ghost use Rattle.zarrs_metadata.specs.Conversion.{extension_with_member, endian_name_v2};
+ghost use Rattle.zarrs_metadata.specs.Conversion.{is_vlen_utf8, has_filters_of, is_uncompressed, endian_name_v2};
 ghost use Rattle.zarrs_metadata.specs.Conversion.{bytes_codec, cells_codec, count_down};
 ghost use Rattle.zarrs_metadata.specs.Conversion.{order_codecs, converted, to_v3};
 ghost use Rattle.zarrs_metadata.specs.Refusals.{RefusesConversion};
@@ -19,6 +16,7 @@ ghost use Rattle.zarrs_metadata_v2.specs.View.{document_v2_view};
 use crate::error::ArrayMetadataV2ToV3Error;
 use serde_json::{Map, Value};
 use std::alloc::{AllocError, Global};
+use zarrs_metadata_parts::members::have_only;
 use zarrs_metadata_parts::{
     EndianV2, FillValueMetadata, KindV2, MetadataV3, TypeV2, numbers_value,
 };
@@ -102,9 +100,9 @@ fn converted(
 {
     let shape = metadata.shape.as_slice().to_vec(alloc)?;
     let chunks = sizes_value(alloc, &metadata.chunks)?;
-    let chunk_grid = extension_with(alloc, "regular", "chunk_shape", chunks)?;
+    let chunk_grid = MetadataV3::with_one_member(alloc, "regular", "chunk_shape", chunks)?;
     let separator = metadata.dimension_separator.to_value(alloc)?;
-    let chunk_key_encoding = extension_with(alloc, "v2", "separator", separator)?;
+    let chunk_key_encoding = MetadataV3::with_one_member(alloc, "v2", "separator", separator)?;
     let data_type = MetadataV3::new(String::from_str(alloc, cells.kind.name())?);
     let codecs = codecs_of(alloc, metadata, cells)?;
     let attributes = copied(&metadata.attributes)?;
@@ -122,19 +120,6 @@ fn converted(
     })
 }
 
-/// Returns the extension of this name with this one member in its configuration.
-fn extension_with(
-    alloc: Global,
-    name: &str,
-    key: &str,
-    value: Value,
-) -> Result<MetadataV3, AllocError>
-    ensures { IfOk result (λ m. extension_view m
-        ≡ extension_with_member name.now key.now (view value)) }
-{
-    MetadataV3::new(String::from_str(alloc, name)?).with_member(alloc, key, value)
-}
-
 /// Returns the codecs in the order in which they encode.
 fn codecs_of(
     alloc: Global,
@@ -147,13 +132,10 @@ fn codecs_of(
 {
     let mut codecs = Vec::new(alloc);
     let shape = metadata.shape.as_slice();
-    match metadata.order {
-        ArrayMetadataV2Order::C => {}
-        ArrayMetadataV2Order::F => {
-            let order = count_down(alloc, shape.len() as u64)?;
-            let order = numbers_value(alloc, order.as_slice())?;
-            codecs.push(extension_with(alloc, "transpose", "order", order)?)?;
-        }
+    if let ArrayMetadataV2Order::F = metadata.order {
+        let order = count_down(alloc, shape.len() as u64)?;
+        let order = numbers_value(alloc, order.as_slice())?;
+        codecs.push(MetadataV3::with_one_member(alloc, "transpose", "order", order)?)?;
     }
     codecs.push(cells_codec(alloc, cells)?)?;
     Ok(codecs)
@@ -190,7 +172,7 @@ fn bytes_codec(alloc: Global, endian: Option<EndianV2>) -> Result<MetadataV3, Al
         None => Ok(MetadataV3::new(String::from_str(alloc, "bytes")?)),
         Some(endian) => {
             let endian = Value::try_from_str(alloc, endian_name_v2(endian))?;
-            extension_with(alloc, "bytes", "endian", endian)
+            MetadataV3::with_one_member(alloc, "bytes", "endian", endian)
         }
     }
 }
@@ -214,43 +196,19 @@ fn is_uncompressed(kind: KindV2, metadata: &ArrayMetadataV2) -> bool
 fn has_filters_of(kind: KindV2, filters: &Value) -> bool
     ensures { result ≡ has_filters_of kind (view filters.now) }
 {
-    if kind.is_text() {
-        has_text_filter(filters)
-    } else {
-        has_no_filter(filters)
-    }
-}
-
-fn has_no_filter(filters: &Value) -> bool
-    ensures { result ≡ has_no_filter (view filters.now) }
-{
     match filters {
-        Value::Null => true,
-        Value::Array(items) => is_empty_list(items.as_slice()),
+        Value::Null => !kind.is_text(),
+        Value::Array(items) => are_filters_of(kind, items.as_slice()),
         _ => false,
     }
 }
 
-fn is_empty_list(items: &[Value]) -> bool
-    ensures { result ≡ has_no_filter (array (items_view items.now)) }
-{
-    items.is_empty()
-}
-
-fn has_text_filter(filters: &Value) -> bool
-    ensures { result ≡ has_text_filter (view filters.now) }
-{
-    match filters {
-        Value::Array(items) => is_text_filter(items.as_slice()),
-        _ => false,
-    }
-}
-
-fn is_text_filter(items: &[Value]) -> bool
-    ensures { result ≡ has_text_filter (array (items_view items.now)) }
+fn are_filters_of(kind: KindV2, items: &[Value]) -> bool
+    ensures { result ≡ has_filters_of kind (array (items_view items.now)) }
 {
     match items {
-        [item] => is_vlen_utf8(item),
+        [] => !kind.is_text(),
+        [item] => kind.is_text() && is_vlen_utf8(item),
         _ => false,
     }
 }
@@ -260,7 +218,7 @@ fn is_vlen_utf8(filter: &Value) -> bool
     ensures { result ≡ is_vlen_utf8 (view filter.now) }
 {
     match filter.as_object() {
-        Some(members) => has_text_id(members) && has_only_id(members),
+        Some(members) => has_text_id(members) && have_only(members, &["id"]),
         None => false,
     }
 }
@@ -270,27 +228,7 @@ fn has_text_id(members: &Map<String, Value>) -> bool
         (get_member (codes "id") (members_view members.now.entries)) }
 {
     match member_of(members, "id") {
-        Some(id) => match id.as_str() {
-            Some(text) => text == "vlen-utf8",
-            None => false,
-        },
+        Some(id) => matches!(id.as_str(), Some(text) if text == "vlen-utf8"),
         None => false,
     }
-}
-
-fn is_id(name: &str) -> bool
-    ensures { result ≡ is_named (codes "id" ∷ []) name.now }
-{
-    name == "id"
-}
-
-fn has_only_id(members: &Map<String, Value>) -> bool
-    ensures { result ≡ has_only (codes "id" ∷ []) (members_view members.now.entries) }
-{
-    for (name, _member) in members.iter() {
-        if !is_id(name.as_str()) {
-            return false;
-        }
-    }
-    true
 }

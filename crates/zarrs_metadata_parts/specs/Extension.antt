@@ -31,6 +31,10 @@ o >>= f = option_and_then f o
 abbrev pub named : List ℕ → ExtensionData
 named text = record { name = text; configuration = None; must_understand = true }
 
+-- an extension of this name with one member in its configuration
+abbrev pub extension_with_member : List ℕ → List ℕ → Data → ExtensionData
+extension_with_member name key d = record { name = name; configuration = Some (member key d no_members); must_understand = true }
+
 -- ---- what a JSON value says
 
 -- an absent configuration is none, and so is an empty one

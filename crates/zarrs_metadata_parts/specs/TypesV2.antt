@@ -1,9 +1,9 @@
 -- What the text of a data type of Zarr V2 means, and its fill values as those of Zarr V3.
 use Rattle.std.specs.Prelude.{ℕ, ℤ, pos, negsuc, int_le, nat_le, List, [], ◌∷◌, ◌&&◌, Bool, true, false, codes, bytes_eq, if◌then◌else◌}
-use Rattle.std.specs.Prelude.{Option, Some, None, option_map, option_and_then, unwrap_or}
-use Rattle.serde_json.specs.Data.{Data, null, boolean, number, string, array, object}
-use Rattle.serde_json.specs.Find.{as_number, as_u64, as_i64}
-use Rattle.zarrs_metadata_parts.specs.Lists.{number_of, number_data}
+use Rattle.std.specs.Prelude.{Option, Some, None, option_map, option_and_then, unwrap_or, is_some}
+use Rattle.serde_json.specs.Data.{Num, Data, null, boolean, number, string, array, object}
+use Rattle.serde_json.specs.Find.{as_u64, as_i64}
+use Rattle.zarrs_metadata_parts.specs.Lists.{number_data}
 use Rattle.zarrs_metadata_parts.specs.declared.types_v2.KindV2.{KindV2}
 use Rattle.zarrs_metadata_parts.specs.declared.types_v2.KindV2.TheVariants as kind
 use Rattle.zarrs_metadata_parts.specs.declared.types_v2.EndianV2.{EndianV2}
@@ -80,29 +80,41 @@ bool_fill (string text) = None
 bool_fill (array ds) = None
 bool_fill (object ms) = None
 
--- the value is a whole number from the first to the second
-abbrev pub is_number_within : ℤ → ℤ → Data → Bool
-is_number_within low high d =
-    unwrap_or (option_map (λ z. int_le low z && int_le z high) (option_and_then as_i64 (as_number d))) false
+-- a whole number from the first to the second
+abbrev pub is_number_within : ℤ → ℤ → Num → Bool
+is_number_within low high n = unwrap_or (option_map (λ z. int_le low z && int_le z high) (as_i64 n)) false
 
--- the value is a whole number up to this one
-abbrev pub is_up_to : ℕ → Data → Bool
-is_up_to high d = unwrap_or (option_map (λ n. nat_le n high) (number_of d)) false
+-- a whole number up to this one
+abbrev pub is_up_to : ℕ → Num → Bool
+is_up_to high n = unwrap_or (option_map (λ m. nat_le m high) (as_u64 n)) false
+
+-- a number that the type holds
+abbrev pub holds_number : KindV2 → Num → Bool
+holds_number kind.Int8 n = is_number_within (negsuc 127) (pos 127) n
+holds_number kind.Int16 n = is_number_within (negsuc 32767) (pos 32767) n
+holds_number kind.Int32 n = is_number_within (negsuc 2147483647) (pos 2147483647) n
+holds_number kind.Int64 n = is_some (as_i64 n)
+holds_number kind.Uint8 n = is_up_to 255 n
+holds_number kind.Uint16 n = is_up_to 65535 n
+holds_number kind.Uint32 n = is_up_to 4294967295 n
+holds_number kind.Uint64 n = is_some (as_u64 n)
+holds_number kind.Bool n = false
+holds_number kind.Text n = false
 
 -- null is 0
-abbrev pub number_fill : (Data → Bool) → Data → Option Data
-number_fill fits null = Some (number_data 0)
-number_fill fits (number n) = if fits (number n) then Some (number n) else None
-number_fill fits (boolean b) = None
-number_fill fits (string text) = None
-number_fill fits (array ds) = None
-number_fill fits (object ms) = None
+abbrev pub number_fill : KindV2 → Data → Option Data
+number_fill k null = Some (number_data 0)
+number_fill k (number n) = if holds_number k n then Some (number n) else None
+number_fill k (boolean b) = None
+number_fill k (string text) = None
+number_fill k (array ds) = None
+number_fill k (object ms) = None
 
 -- null and 0 are the empty text
 abbrev pub text_fill : Data → Option Data
 text_fill null = Some (string [])
 text_fill (string text) = Some (string text)
-text_fill (number n) = if is_up_to 0 (number n) then Some (string []) else None
+text_fill (number n) = if is_up_to 0 n then Some (string []) else None
 text_fill (boolean b) = None
 text_fill (array ds) = None
 text_fill (object ms) = None
@@ -110,12 +122,5 @@ text_fill (object ms) = None
 -- the fill value of V3
 abbrev pub fill_v3 : KindV2 → Data → Option Data
 fill_v3 kind.Bool d = bool_fill d
-fill_v3 kind.Int8 d = number_fill (is_number_within (negsuc 127) (pos 127)) d
-fill_v3 kind.Int16 d = number_fill (is_number_within (negsuc 32767) (pos 32767)) d
-fill_v3 kind.Int32 d = number_fill (is_number_within (negsuc 2147483647) (pos 2147483647)) d
-fill_v3 kind.Int64 d = number_fill (is_number_within (negsuc 9223372036854775807) (pos 9223372036854775807)) d
-fill_v3 kind.Uint8 d = number_fill (is_up_to 255) d
-fill_v3 kind.Uint16 d = number_fill (is_up_to 65535) d
-fill_v3 kind.Uint32 d = number_fill (is_up_to 4294967295) d
-fill_v3 kind.Uint64 d = number_fill (is_up_to 18446744073709551615) d
 fill_v3 kind.Text d = text_fill d
+fill_v3 k d = number_fill k d

@@ -10,7 +10,7 @@ use std::marker::Model;
 
 /// A data type of Zarr V2 by its text, as `<i4` or `|b1` (Zarr V2 storage specification, "Data type encoding").
 /// Structured types are left out. Contracts see the text.
-#[derive(Debug, Drop)]
+#[derive(Clone, Debug, Drop)]
 pub struct DataTypeMetadataV2 {
     text: String,
 }
@@ -62,9 +62,9 @@ impl DataTypeMetadataV2 {
     ///
     /// # Errors
     /// `AllocError`: out of memory.
-    pub fn try_clone(&self, alloc: Global) -> Result<DataTypeMetadataV2, AllocError>
+    pub fn try_clone(&self, _alloc: Global) -> Result<DataTypeMetadataV2, AllocError>
         ensures { IfOk result (λ copy. copy ≡ self.now) }
     {
-        Ok(DataTypeMetadataV2::new(String::from_str(alloc, self.text.as_str())?))
+        self.clone()
     }
 }

@@ -7,7 +7,7 @@ ghost use Rattle.serde_json.specs.Find.{as_str, get_member};
 ghost use Rattle.zarrs_metadata_parts.specs.Members.{has_only, nonempty};
 ghost use Rattle.zarrs_metadata_parts.specs.Extension.{named, settings, extension_of, extension_from};
 ghost use Rattle.zarrs_metadata_parts.specs.Extension.{extension_data, normal, configuration_from};
-ghost use Rattle.zarrs_metadata_parts.specs.Extension.{must_understand_from};
+ghost use Rattle.zarrs_metadata_parts.specs.Extension.{must_understand_from, extension_with_member};
 
 use crate::error::MetadataError;
 use crate::members::{copied, have_only, kept, object_of, take_member};
@@ -50,6 +50,22 @@ impl MetadataV3 {
             configuration: Some(configuration),
             ..MetadataV3::new(name)
         }
+    }
+
+    /// Returns the extension of this name with this one member in its configuration, which must be understood.
+    ///
+    /// # Errors
+    /// `AllocError`: out of memory.
+    pub fn with_one_member(
+        alloc: Global,
+        name: &str,
+        key: &str,
+        value: Value,
+    ) -> Result<MetadataV3, AllocError>
+        ensures { IfOk result (λ m. extension_view m
+            ≡ extension_with_member name.now key.now (view value)) }
+    {
+        MetadataV3::new(String::from_str(alloc, name)?).with_member(alloc, key, value)
     }
 
     /// Returns its name.
@@ -223,6 +239,16 @@ impl MetadataV3 {
         }
         serde_json::put(&mut members, alloc, "name", name)?;
         Ok(Value::Object(members))
+    }
+}
+
+impl Clone for MetadataV3 {
+    ghost use Rattle.zarrs_metadata_parts.specs.Extension.{extension_view};
+
+    ghost is_clone = { λ metadata copy. extension_view copy ≡ extension_view metadata };
+
+    fn clone(&self) -> Result<MetadataV3, AllocError> {
+        self.try_clone()
     }
 }
 

@@ -1,8 +1,7 @@
 //! Fill values as metadata says them.
 ghost use Rattle.std.specs.Prelude.{◌≡◌, IfOk};
-ghost use Rattle.serde_json.specs.View.{view, items_view, members_view};
+ghost use Rattle.serde_json.specs.View.{view};
 
-use crate::members::copied;
 use serde_json::{Map, Number, Value};
 use std::alloc::{AllocError, Global};
 use std::fmt;
@@ -10,7 +9,7 @@ use std::fmt::Write;
 
 /// The fill value of an array as its metadata says it (Zarr V3 core specification, "fill_value"; Zarr V2 storage
 /// specification, "fill_value").
-#[derive(Debug, Drop)]
+#[derive(Clone, Debug, Drop)]
 pub enum FillValueMetadata {
     /// `null`
     Null,
@@ -64,89 +63,26 @@ impl FillValueMetadata {
     pub fn to_value(&self, alloc: Global) -> Result<Value, AllocError>
         ensures { IfOk result (λ value. view value ≡ fill_data self.now) }
     {
-        match self {
-            FillValueMetadata::Null => Ok(Value::Null),
-            FillValueMetadata::Bool(flag) => Ok(Value::Bool(*flag)),
-            FillValueMetadata::Number(number) => Ok(Value::Number(number.clone()?)),
-            FillValueMetadata::String(text) => Value::try_from_str(alloc, text.as_str()),
-            FillValueMetadata::Array(items) => Ok(Value::Array(copied_items(items)?)),
-            FillValueMetadata::Object(members) => Ok(Value::Object(copied(members)?)),
-        }
+        Ok(self.try_clone(alloc)?.into_value())
     }
 
     /// The same fill value.
     ///
     /// # Errors
     /// `AllocError`: out of memory.
-    pub fn try_clone(&self, alloc: Global) -> Result<FillValueMetadata, AllocError>
+    pub fn try_clone(&self, _alloc: Global) -> Result<FillValueMetadata, AllocError>
         ensures { IfOk result (λ copy. fill_data copy ≡ fill_data self.now) }
     {
-        Ok(FillValueMetadata::from_value(self.to_value(alloc)?))
+        self.clone()
     }
-}
-
-/// A copy of the values.
-fn copied_items(items: &Vec<Value>) -> Result<Vec<Value>, AllocError>
-    ensures { IfOk result (λ copy. items_view copy.items ≡ items_view items.now.items) }
-{
-    items.clone()
 }
 
 impl fmt::Display for FillValueMetadata {
-    /// Writes the JSON text of the fill value.
+    /// Writes the JSON text of the fill value, of which it makes a copy.
     fn fmt<W: Write>(&self, f: &mut fmt::Formatter<W>) -> fmt::Result {
-        match self {
-            FillValueMetadata::Null => f.write_str("null"),
-            FillValueMetadata::Bool(flag) => write!(f, "{flag}"),
-            FillValueMetadata::Number(number) => write!(f, "{number}"),
-            FillValueMetadata::String(text) => write_text(text.as_str(), f),
-            FillValueMetadata::Array(items) => write_items(items, f),
-            FillValueMetadata::Object(members) => write_members(members, f),
+        match self.clone() {
+            Ok(copy) => write!(f, "{}", copy.into_value()),
+            Err(_) => Err(fmt::Error),
         }
     }
-}
-
-fn write_items<W: Write>(items: &Vec<Value>, f: &mut fmt::Formatter<W>) -> fmt::Result {
-    if items.is_empty() {
-        return f.write_str("[]");
-    }
-    let mut before = '[';
-    for item in items {
-        write!(f, "{before}{item}")?;
-        before = ',';
-    }
-    f.write_str("]")
-}
-
-fn write_members<W: Write>(members: &Map<String, Value>, f: &mut fmt::Formatter<W>) -> fmt::Result {
-    if members.is_empty() {
-        return f.write_str("{}");
-    }
-    let mut before = '{';
-    for (name, value) in members.iter() {
-        f.write_char(before)?;
-        write_text(name.as_str(), f)?;
-        write!(f, ":{value}")?;
-        before = ',';
-    }
-    f.write_str("}")
-}
-
-/// Writes the text as JSON quotes it.
-fn write_text<W: Write>(text: &str, f: &mut fmt::Formatter<W>) -> fmt::Result {
-    f.write_str("\"")?;
-    for c in text.chars() {
-        match c {
-            '"' => f.write_str("\\\"")?,
-            '\\' => f.write_str("\\\\")?,
-            '\u{8}' => f.write_str("\\b")?,
-            '\u{c}' => f.write_str("\\f")?,
-            '\n' => f.write_str("\\n")?,
-            '\r' => f.write_str("\\r")?,
-            '\t' => f.write_str("\\t")?,
-            c if c < ' ' => write!(f, "\\u{:04x}", u32::from(c))?,
-            c => f.write_char(c)?,
-        }
-    }
-    f.write_str("\"")
 }

@@ -71,7 +71,7 @@ fn is_one_of(names: &[&str], key: &str) -> bool
 }
 
 /// Returns whether each member has one of these names.
-pub(crate) fn have_only(members: &Map<String, Value>, names: &[&str]) -> bool
+pub fn have_only(members: &Map<String, Value>, names: &[&str]) -> bool
     ensures { result ≡ has_only (map (λ name. name.now) names.now)
         (members_view members.now.entries) }
 {

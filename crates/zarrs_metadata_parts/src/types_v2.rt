@@ -1,12 +1,10 @@
 //! The data types of Zarr V2 that have a V3 name, and their fill values.
 ghost use Rattle.std.specs.Prelude.{◌≡◌, ℕ, ℤ, pos, negsuc, option_map, Some, IfOk};
-ghost use Rattle.serde_json.specs.Data.{number};
 ghost use Rattle.serde_json.specs.View.{number_view};
 ghost use Rattle.zarrs_metadata_parts.specs.FillValue.{fill_data};
-ghost use Rattle.zarrs_metadata_parts.specs.Lists.{number_data};
 ghost use Rattle.zarrs_metadata_parts.specs.TypesV2.{wide_kind, narrow_kind, type_v2, type_name_v3};
 ghost use Rattle.zarrs_metadata_parts.specs.TypesV2.{is_text_kind, bool_fill, is_number_within};
-ghost use Rattle.zarrs_metadata_parts.specs.TypesV2.{is_up_to, number_fill, text_fill, fill_v3};
+ghost use Rattle.zarrs_metadata_parts.specs.TypesV2.{is_up_to, holds_number, number_fill, text_fill, fill_v3};
 
 use crate::fill_value::FillValueMetadata;
 use serde_json::Number;
@@ -136,24 +134,27 @@ impl KindV2 {
     {
         match self {
             KindV2::Bool => Ok(bool_fill(value)),
-            KindV2::Int8 => Ok(signed_fill(value, -128, 127)),
-            KindV2::Int16 => Ok(signed_fill(value, -32768, 32767)),
-            KindV2::Int32 => Ok(signed_fill(value, -2147483648, 2147483647)),
-            KindV2::Int64 => Ok(signed_fill(value, -9223372036854775808, 9223372036854775807)),
-            KindV2::Uint8 => Ok(unsigned_fill(value, 255)),
-            KindV2::Uint16 => Ok(unsigned_fill(value, 65535)),
-            KindV2::Uint32 => Ok(unsigned_fill(value, 4294967295)),
-            KindV2::Uint64 => Ok(unsigned_fill(value, 18446744073709551615)),
             KindV2::Text => text_fill(alloc, value),
+            _ => Ok(number_fill(self, value)),
         }
     }
-}
 
-/// Returns the number 0.
-fn zero() -> FillValueMetadata
-    ensures { fill_data result ≡ number_data 0 }
-{
-    FillValueMetadata::Number(Number::from(0u64))
+    /// Returns whether the number is a value of the type.
+    fn holds(self, number: &Number) -> bool
+        ensures { result ≡ holds_number self (number_view number.now) }
+    {
+        match self {
+            KindV2::Int8 => is_number_within(number, -128, 127),
+            KindV2::Int16 => is_number_within(number, -32768, 32767),
+            KindV2::Int32 => is_number_within(number, -2147483648, 2147483647),
+            KindV2::Int64 => number.is_i64(),
+            KindV2::Uint8 => is_up_to(number, 255),
+            KindV2::Uint16 => is_up_to(number, 65535),
+            KindV2::Uint32 => is_up_to(number, 4294967295),
+            KindV2::Uint64 => number.is_u64(),
+            KindV2::Bool | KindV2::Text => false,
+        }
+    }
 }
 
 fn bool_fill(value: &FillValueMetadata) -> Option<FillValueMetadata>
@@ -172,44 +173,26 @@ fn bool_fill(value: &FillValueMetadata) -> Option<FillValueMetadata>
 }
 
 fn is_number_within(found: &Number, low: i64, high: i64) -> bool
-    ensures { result ≡ is_number_within low high (number (number_view found.now)) }
+    ensures { result ≡ is_number_within low high (number_view found.now) }
 {
-    match found.as_i64() {
-        Some(number) => low <= number && number <= high,
-        None => false,
-    }
+    matches!(found.as_i64(), Some(number) if low <= number && number <= high)
 }
 
 fn is_up_to(found: &Number, high: u64) -> bool
-    ensures { result ≡ is_up_to high (number (number_view found.now)) }
+    ensures { result ≡ is_up_to high (number_view found.now) }
 {
-    match found.as_u64() {
-        Some(number) => number <= high,
-        None => false,
-    }
+    matches!(found.as_u64(), Some(number) if number <= high)
 }
 
-fn signed_fill(value: &FillValueMetadata, low: i64, high: i64) -> Option<FillValueMetadata>
-    ensures { option_map fill_data result ≡ number_fill (is_number_within low high)
-        (fill_data value.now) }
+/// Returns the fill value of a type of whole numbers.
+fn number_fill(kind: KindV2, value: &FillValueMetadata) -> Option<FillValueMetadata>
+    ensures { option_map fill_data result ≡ number_fill kind (fill_data value.now) }
 {
     match value {
-        FillValueMetadata::Null => Some(zero()),
-        FillValueMetadata::Number(number) if is_number_within(number, low, high) => Some(
-            FillValueMetadata::Number(*number),
-        ),
-        _ => None,
-    }
-}
-
-fn unsigned_fill(value: &FillValueMetadata, high: u64) -> Option<FillValueMetadata>
-    ensures { option_map fill_data result ≡ number_fill (is_up_to high) (fill_data value.now) }
-{
-    match value {
-        FillValueMetadata::Null => Some(zero()),
-        FillValueMetadata::Number(number) if is_up_to(number, high) => Some(
-            FillValueMetadata::Number(*number),
-        ),
+        FillValueMetadata::Null => Some(FillValueMetadata::Number(Number::from(0u64))),
+        FillValueMetadata::Number(number) if kind.holds(number) => Some(FillValueMetadata::Number(
+            *number,
+        )),
         _ => None,
     }
 }

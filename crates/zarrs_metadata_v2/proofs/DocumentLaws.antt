@@ -1,22 +1,22 @@
 -- The document that is written reads as what was written.
-use Rattle.std.proofs.Common.{◌≡◌, ℕ, List, map, Option, Some, None, codes, refl, sym, ap, ◌∙◌, arith}
+use Rattle.std.proofs.Common.{◌≡◌, ℕ, List, map, Option, Some, None, true, option_and_then, codes, refl, sym, ap, ◌∙◌, arith}
 use Rattle.std.proofs.lemmas.Bool.{ne_eqb}
 use Rattle.std.specs.Int.NonZero.{non_zero_u64_get}
 use Rattle.std.specs.declared.num.NonZeroU64.{NonZeroU64}
 use Rattle.serde_json.specs.Data.{Data, string, array, object, Members, no_members, member}
-use Rattle.serde_json.specs.Find.{get_member}
+use Rattle.serde_json.specs.Find.{get_member, as_str}
 use Rattle.serde_json.specs.View.{items_of}
-use Rattle.zarrs_metadata_parts.specs.Lists.{number_data, numbers_data}
+use Rattle.zarrs_metadata_parts.specs.Lists.{number_data, numbers_of, numbers_data}
 use Rattle.zarrs_metadata_parts.specs.Separator.{separator_of, separator_data}
 use Rattle.zarrs_metadata_parts.specs.declared.separators.ChunkKeySeparator.{ChunkKeySeparator}
 use Rattle.zarrs_metadata_parts.specs.declared.separators.ChunkKeySeparator.TheVariants.{Slash, Dot}
 use Rattle.zarrs_metadata_parts.proofs.ListLemmas.{all_of-items_of, numbers_of-numbers_data}
-use Rattle.zarrs_metadata_v3.specs.Members.{put_some, put_all, list_in, members_in, object_data}
+use Rattle.zarrs_metadata_v3.specs.Members.{put_some, put_all, list_in, members_in, object_data, reads_as_number}
 use Rattle.zarrs_metadata_v3.proofs.ListLemmas.{map_both}
 use Rattle.zarrs_metadata_v3.proofs.MemberLemmas.{get_member-put_all}
 use Rattle.zarrs_metadata_v2.specs.declared.order.ArrayMetadataV2Order.{ArrayMetadataV2Order}
 use Rattle.zarrs_metadata_v2.specs.declared.order.ArrayMetadataV2Order.TheVariants.{C, F}
-use Rattle.zarrs_metadata_v2.specs.Document.{DocumentV2Data, PartsV2Data, DraftV2Data, non_zero_size, chunk_order_of, parts_of_v2, draft_of_v2, assembled_v2, document_v2_from, document_v2_of, order_data, document_v2_members, data_v2_with, data_of_v2, without_attributes}
+use Rattle.zarrs_metadata_v2.specs.Document.{DocumentV2Data, non_zero_size, chunk_order_of, dimension_separator_in, document_v2_in, document_v2_of, order_data, document_v2_members, data_v2_with, data_of_v2, without_attributes}
 
 -- ---- written one after the other
 
@@ -36,38 +36,14 @@ unfolding data_v2_with
 written_in_turn attributes m v_zarr_format v_shape v_chunks v_dtype v_compressor v_fill_value v_order v_filters v_dimension_separator v_attributes m_zarr_format m_shape m_chunks m_dtype m_compressor m_fill_value m_order m_filters m_dimension_separator m_attributes i_zarr_format e_zarr_format i_shape e_shape i_chunks e_chunks i_dtype e_dtype i_compressor e_compressor i_fill_value e_fill_value i_order e_order i_filters e_filters i_dimension_separator e_dimension_separator i_attributes e_attributes =
     rw (e_attributes, e_dimension_separator, e_filters, e_order, e_fill_value, e_compressor, e_dtype, e_chunks, e_shape, e_zarr_format, i_zarr_format, i_shape, i_chunks, i_dtype, i_compressor, i_fill_value, i_order, i_filters, i_dimension_separator, i_attributes) refl
 
--- ---- what the parts of a written document are
+-- ---- what a written document reads as
 
-same_parts : (ms : Members) (w : PartsV2Data) → get_member (codes "zarr_format") ms ≡ w.zarr_format → get_member (codes "shape") ms ≡ w.shape → get_member (codes "chunks") ms ≡ w.chunks → get_member (codes "dtype") ms ≡ w.dtype → get_member (codes "compressor") ms ≡ w.compressor → get_member (codes "fill_value") ms ≡ w.fill_value → get_member (codes "order") ms ≡ w.order → get_member (codes "filters") ms ≡ w.filters → get_member (codes "dimension_separator") ms ≡ w.dimension_separator → get_member (codes "attributes") ms ≡ w.attributes → parts_of_v2 ms ≡ w
-unfolding parts_of_v2
-same_parts ms w e_zarr_format e_shape e_chunks e_dtype e_compressor e_fill_value e_order e_filters e_dimension_separator e_attributes = rw (e_zarr_format, e_shape, e_chunks, e_dtype, e_compressor, e_fill_value, e_order, e_filters, e_dimension_separator, e_attributes) refl
-
-abbrev written_parts : Option Data → DocumentV2Data → PartsV2Data
-written_parts attributes m = record { zarr_format = Some (number_data 2); shape = Some (numbers_data m.shape); chunks = Some (numbers_data m.chunks); dtype = Some (string m.dtype); compressor = Some m.compressor; fill_value = Some m.fill_value; order = Some (order_data m.order); filters = Some m.filters; dimension_separator = Some (separator_data m.dimension_separator); attributes = attributes }
-
-parts_written : (attributes : Option Data) (m : DocumentV2Data) → parts_of_v2 (put_all (document_v2_members attributes m) no_members) ≡ written_parts attributes m
-parts_written attributes m =
-    let es = document_v2_members attributes m in
-    let found = λ (key : List ℕ). get_member-put_all key es no_members refl in
-    same_parts (put_all es no_members) (written_parts attributes m)
-    (found (codes "zarr_format"))
-    (found (codes "shape"))
-    (found (codes "chunks"))
-    (found (codes "dtype"))
-    (found (codes "compressor"))
-    (found (codes "fill_value"))
-    (found (codes "order"))
-    (found (codes "filters"))
-    (found (codes "dimension_separator"))
-    (found (codes "attributes"))
-
--- ---- and what they read as
-
-assembled_all : (w : DraftV2Data) (m : DocumentV2Data)
-    → w.shape ≡ Some m.shape → w.chunks ≡ Some m.chunks → w.dtype ≡ Some m.dtype → w.compressor ≡ Some m.compressor → w.fill_value ≡ Some m.fill_value → w.order ≡ Some m.order → w.filters ≡ Some m.filters → w.dimension_separator ≡ Some m.dimension_separator → w.attributes ≡ Some m.attributes
-    → assembled_v2 w ≡ Some m
-unfolding assembled_v2
-assembled_all w m e1 e2 e3 e4 e5 e6 e7 e8 e9 = rw (e1, e2, e3, e4, e5, e6, e7, e8, e9) refl
+pub document_in_all : (ms : Members) (m : DocumentV2Data)
+    → option_and_then numbers_of (get_member (codes "shape") ms) ≡ Some m.shape → list_in non_zero_size (get_member (codes "chunks") ms) ≡ Some m.chunks → option_and_then as_str (get_member (codes "dtype") ms) ≡ Some m.dtype
+    → get_member (codes "compressor") ms ≡ Some m.compressor → get_member (codes "fill_value") ms ≡ Some m.fill_value → option_and_then chunk_order_of (get_member (codes "order") ms) ≡ Some m.order → get_member (codes "filters") ms ≡ Some m.filters
+    → dimension_separator_in (get_member (codes "dimension_separator") ms) ≡ Some m.dimension_separator → members_in (get_member (codes "attributes") ms) ≡ Some m.attributes → document_v2_in ms ≡ Some m
+unfolding document_v2_in
+document_in_all ms m e1 e2 e3 e4 e5 e6 e7 e8 e9 = rw (e1, e2, e3, e4, e5, e6, e7, e8, e9) refl
 
 order_back : (o : ArrayMetadataV2Order) → chunk_order_of (order_data o) ≡ Some o
 order_back C = refl
@@ -91,10 +67,23 @@ sizes_back sizes =
     ∙ all_of-items_of non_zero_size (λ size. number_data (non_zero_u64_get size)) non_zero_u64_get size_back sizes
 
 pub data_v2_with_back : (m : DocumentV2Data) → list_in non_zero_size (Some (numbers_data m.chunks)) ≡ Some m.chunks → document_v2_of (data_of_v2 m) ≡ Some m
-unfolding data_v2_with draft_of_v2
+unfolding data_v2_with
 data_v2_with_back m sizes =
-    ap document_v2_from (parts_written (object_data m.attributes) m)
-    ∙ assembled_all (draft_of_v2 (written_parts (object_data m.attributes) m)) m (numbers_of-numbers_data m.shape) sizes refl refl refl (order_back m.order) refl (separator_back m.dimension_separator) (attributes_back m.attributes)
+    let es = document_v2_members (object_data m.attributes) m in
+    let ms = put_all es no_members in
+    let found = λ (key : List ℕ). get_member-put_all key es no_members refl in
+    let format : reads_as_number 2 (get_member (codes "zarr_format") ms) ≡ true = ap (reads_as_number 2) (found (codes "zarr_format")) in
+    let read = document_in_all ms m
+    (ap (option_and_then numbers_of) (found (codes "shape")) ∙ numbers_of-numbers_data m.shape)
+    (ap (list_in non_zero_size) (found (codes "chunks")) ∙ sizes)
+    (ap (option_and_then as_str) (found (codes "dtype")))
+    (found (codes "compressor"))
+    (found (codes "fill_value"))
+    (ap (option_and_then chunk_order_of) (found (codes "order")) ∙ order_back m.order)
+    (found (codes "filters"))
+    (ap dimension_separator_in (found (codes "dimension_separator")) ∙ separator_back m.dimension_separator)
+    (ap members_in (found (codes "attributes")) ∙ attributes_back m.attributes) in
+    rw format read
 
 -- attributes that are left out are not written
 pub without_same : (m : DocumentV2Data) → data_v2_with None m ≡ data_of_v2 (without_attributes m)

@@ -1,2 +1,3 @@
 pub mod DocumentLaws
 pub mod TextLaws
+pub mod ReadingLaws

@@ -1,6 +1,6 @@
 -- The V2 document of an array (Zarr V2 storage specification, arrays and attributes), and the JSON values that read as one.
 use Rattle.std.specs.Prelude.{◌≡◌, ◌≤◌, ℕ, List, [], ◌∷◌, ◌==◌, false, bytes_eq, codes, if◌then◌else◌, Option, Some, None, option_and_then}
-use Rattle.std.specs.Str.{is_utf8, IsUtf8}
+use Rattle.std.specs.Str.{IsUtf8}
 use Rattle.json.specs.Lex.{tokens}
 use Rattle.json.specs.Layout.{pretty}
 use Rattle.serde_json.specs.Data.{Data, depth, string, object, Members, no_members}
@@ -12,7 +12,7 @@ use Rattle.zarrs_metadata_parts.specs.Extension.{◌>>=◌}
 use Rattle.zarrs_metadata_parts.specs.Separator.{separator_of, separator_data}
 use Rattle.zarrs_metadata_parts.specs.declared.separators.ChunkKeySeparator.{ChunkKeySeparator}
 use Rattle.zarrs_metadata_parts.specs.declared.separators.ChunkKeySeparator.TheVariants.{Dot}
-use Rattle.zarrs_metadata_v3.specs.Members.{reads_as_number, list_in, members_in, object_data, put_all}
+use Rattle.zarrs_metadata_v3.specs.Members.{value_said, reads_as_number, list_in, members_in, object_data, put_all}
 use Rattle.zarrs_metadata_v2.specs.declared.order.ArrayMetadataV2Order.{ArrayMetadataV2Order}
 use Rattle.zarrs_metadata_v2.specs.declared.order.ArrayMetadataV2Order.TheVariants.{C, F}
 
@@ -63,87 +63,41 @@ abbrev pub dimension_separator_in : Option Data → Option ChunkKeySeparator
 dimension_separator_in None = Some Dot
 dimension_separator_in (Some d) = separator_of d
 
--- the members of a document, by name
-pub record PartsV2Data : Type 0 where
-  pub zarr_format : Option Data
-  pub shape : Option Data
-  pub chunks : Option Data
-  pub dtype : Option Data
-  pub compressor : Option Data
-  pub fill_value : Option Data
-  pub order : Option Data
-  pub filters : Option Data
-  pub dimension_separator : Option Data
-  pub attributes : Option Data
+-- the document that members say: each reads, under its own name; other members are ignored
+unfoldable pub document_v2_in : Members → Option DocumentV2Data
+document_v2_in ms = do
+  shape ← option_and_then numbers_of (get_member (codes "shape") ms)
+  chunks ← list_in non_zero_size (get_member (codes "chunks") ms)
+  dtype ← option_and_then as_str (get_member (codes "dtype") ms)
+  compressor ← get_member (codes "compressor") ms
+  fill_value ← get_member (codes "fill_value") ms
+  order ← option_and_then chunk_order_of (get_member (codes "order") ms)
+  filters ← get_member (codes "filters") ms
+  separator ← dimension_separator_in (get_member (codes "dimension_separator") ms)
+  attributes ← members_in (get_member (codes "attributes") ms)
+  Some (record {
+    shape = shape;
+    chunks = chunks;
+    dtype = dtype;
+    compressor = compressor;
+    fill_value = fill_value;
+    order = order;
+    filters = filters;
+    dimension_separator = separator;
+    attributes = attributes;
+  })
 
-unfoldable pub parts_of_v2 : Members → PartsV2Data
-parts_of_v2 ms = record {
-  zarr_format = get_member (codes "zarr_format") ms;
-  shape = get_member (codes "shape") ms;
-  chunks = get_member (codes "chunks") ms;
-  dtype = get_member (codes "dtype") ms;
-  compressor = get_member (codes "compressor") ms;
-  fill_value = get_member (codes "fill_value") ms;
-  order = get_member (codes "order") ms;
-  filters = get_member (codes "filters") ms;
-  dimension_separator = get_member (codes "dimension_separator") ms;
-  attributes = get_member (codes "attributes") ms;
-}
-
--- each member as it reads, if it does
-pub record DraftV2Data : Type 0 where
-  pub shape : Option (List ℕ)
-  pub chunks : Option (List ℕ)
-  pub dtype : Option (List ℕ)
-  pub compressor : Option Data
-  pub fill_value : Option Data
-  pub order : Option ArrayMetadataV2Order
-  pub filters : Option Data
-  pub dimension_separator : Option ChunkKeySeparator
-  pub attributes : Option Members
-
-unfoldable pub draft_of_v2 : PartsV2Data → DraftV2Data
-draft_of_v2 p = record {
-  shape = option_and_then numbers_of p.shape;
-  chunks = list_in non_zero_size p.chunks;
-  dtype = option_and_then as_str p.dtype;
-  compressor = p.compressor;
-  fill_value = p.fill_value;
-  order = option_and_then chunk_order_of p.order;
-  filters = p.filters;
-  dimension_separator = dimension_separator_in p.dimension_separator;
-  attributes = members_in p.attributes;
-}
-
--- the document, if each member reads
-unfoldable pub assembled_v2 : DraftV2Data → Option DocumentV2Data
-assembled_v2 w = do
-  s ← w.shape
-  c ← w.chunks
-  d ← w.dtype
-  z ← w.compressor
-  f ← w.fill_value
-  o ← w.order
-  l ← w.filters
-  p ← w.dimension_separator
-  a ← w.attributes
-  Some (record { shape = s; chunks = c; dtype = d; compressor = z; fill_value = f; order = o; filters = l; dimension_separator = p; attributes = a })
-
--- the document of these members; other members are ignored
-abbrev pub document_v2_from : PartsV2Data → Option DocumentV2Data
-document_v2_from p = if reads_as_number 2 p.zarr_format then assembled_v2 (draft_of_v2 p) else None
+-- the document that members of this version read as
+abbrev pub document_v2_from : Members → Option DocumentV2Data
+document_v2_from ms = if reads_as_number 2 (get_member (codes "zarr_format") ms) then document_v2_in ms else None
 
 -- the document that a JSON value reads as
 abbrev pub document_v2_of : Data → Option DocumentV2Data
-document_v2_of d = option_and_then (λ ms. document_v2_from (parts_of_v2 ms)) (as_object d)
+document_v2_of d = option_and_then document_v2_from (as_object d)
 
 -- the same for a value without left-out numbers: numbers that are not an integer of 64 bits
 abbrev pub plain_document_v2_of : Data → Option DocumentV2Data
 plain_document_v2_of d = if has_float d then None else document_v2_of d
-
--- the JSON value that bytes read as
-unfoldable pub value_said : List ℕ → Option Data
-value_said bytes = if is_utf8 bytes then read bytes else None
 
 -- the document that the bytes of `.zarray` read as
 abbrev pub document_v2_said : List ℕ → Option DocumentV2Data

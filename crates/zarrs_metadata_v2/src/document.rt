@@ -12,7 +12,7 @@ ghost use Rattle.zarrs_metadata_v2.specs.View.{document_v2_view};
 
 use crate::order::ArrayMetadataV2Order;
 use crate::reading::read_document;
-use crate::text::{object_text, value_from_slice};
+use crate::text::object_text;
 use crate::writing::{array_value, document_value};
 use serde_json::{Map, Value};
 use std::alloc::{AllocError, Global};
@@ -21,7 +21,7 @@ use zarrs_metadata_parts::{
     ChunkKeySeparator, DataTypeMetadataV2, FillValueMetadata, MetadataError,
 };
 use zarrs_metadata_v3::holds_float;
-use zarrs_metadata_v3::members::copied;
+use zarrs_metadata_v3::members::{copied, object_of, value_from_slice};
 
 /// The metadata of a V2 array, as `.zarray` and `.zattrs` hold it (Zarr V2 storage specification).
 #[derive(Debug, Drop)]
@@ -82,46 +82,37 @@ impl ArrayMetadataV2 {
     pub fn try_clone(&self, alloc: Global) -> Result<ArrayMetadataV2, AllocError>
         ensures { IfOk result (λ copy. document_v2_view copy ≡ document_v2_view self.now) }
     {
-        let shape = Vec::from_slice(alloc, self.shape.as_slice())?;
-        let chunks = Vec::from_slice(alloc, self.chunks.as_slice())?;
-        let dtype = self.dtype.try_clone(alloc)?;
-        let compressor = self.compressor.clone()?;
-        let fill_value = self.fill_value.try_clone(alloc)?;
-        let filters = self.filters.clone()?;
-        let attributes = copied(&self.attributes)?;
         Ok(ArrayMetadataV2 {
-            shape,
-            chunks,
-            dtype,
-            compressor,
-            fill_value,
+            shape: Vec::from_slice(alloc, self.shape.as_slice())?,
+            chunks: Vec::from_slice(alloc, self.chunks.as_slice())?,
+            dtype: self.dtype.try_clone(alloc)?,
+            compressor: self.compressor.clone()?,
+            fill_value: self.fill_value.try_clone(alloc)?,
             order: self.order,
-            filters,
+            filters: self.filters.clone()?,
             dimension_separator: self.dimension_separator,
-            attributes,
+            attributes: copied(&self.attributes)?,
         })
     }
 
     /// Returns the metadata with this order of the cells in a chunk.
-    pub fn with_order(self, order: ArrayMetadataV2Order) -> ArrayMetadataV2
+    pub fn with_order(self, order: ArrayMetadataV2Order) -> Self
         ensures { document_v2_view result ≡ record (document_v2_view self) { order = order } }
     {
         ArrayMetadataV2 { order, ..self }
     }
 
     /// Returns the metadata with this separator in its chunk keys.
-    pub fn with_dimension_separator(self, separator: ChunkKeySeparator) -> ArrayMetadataV2
+    pub fn with_dimension_separator(mut self, separator: ChunkKeySeparator) -> Self
         ensures { document_v2_view result
             ≡ record (document_v2_view self) { dimension_separator = separator } }
     {
-        ArrayMetadataV2 {
-            dimension_separator: separator,
-            ..self
-        }
+        self.dimension_separator = separator;
+        self
     }
 
     /// Returns the metadata with these attributes.
-    pub fn with_attributes(self, attributes: Map<String, Value>) -> ArrayMetadataV2
+    pub fn with_attributes(self, attributes: Map<String, Value>) -> Self
         ensures { document_v2_view result
             ≡ record (document_v2_view self) { attributes = members_view attributes.entries } }
     {
@@ -142,11 +133,8 @@ impl ArrayMetadataV2 {
         if holds_float(&value) {
             return Err(MetadataError::InvalidShape);
         }
-        match read_document(alloc, value) {
-            Ok(Some(document)) => Ok(document),
-            Ok(None) => Err(MetadataError::InvalidShape),
-            Err(_) => Err(MetadataError::OutOfMemory),
-        }
+        let members = object_of(value).ok_or(MetadataError::InvalidShape)?;
+        Ok(read_document(alloc, members)?)
     }
 
     /// Returns the JSON value of this document. Empty attributes are not written.

@@ -1,23 +1,25 @@
 //! Reading a V2 document from a JSON value, member by member.
-ghost use Rattle.std.specs.Prelude.{◌≡◌, map, string_bytes, option_map, option_and_then, IfOk};
+ghost use Rattle.std.specs.Prelude.{◌≡◌, map, option_map, option_and_then, IfOk};
 ghost use Rattle.std.specs.Int.NonZero.{non_zero_u64_get};
+ghost use Rattle.serde_json.specs.Data.{Members};
 ghost use Rattle.serde_json.specs.Find.{as_str};
 ghost use Rattle.serde_json.specs.View.{view, items_view, members_view};
-ghost use Rattle.zarrs_metadata_parts.specs.Lists.{all_of};
+ghost use Rattle.zarrs_metadata_parts.specs.Lists.{all_of, list_of};
 ghost use Rattle.zarrs_metadata_v3.specs.Members.{list_in};
+ghost use Rattle.zarrs_metadata_v3.specs.Refusals.{Reads};
 ghost use Rattle.zarrs_metadata_v2.specs.Document.{non_zero_size, chunk_order_of, dimension_separator_in};
-ghost use Rattle.zarrs_metadata_v2.specs.Document.{parts_of_v2, draft_of_v2, assembled_v2};
-ghost use Rattle.zarrs_metadata_v2.specs.Document.{document_v2_from, document_v2_of};
-ghost use Rattle.zarrs_metadata_v2.specs.View.{document_v2_view, parts_v2_view, draft_v2_view};
+ghost use Rattle.zarrs_metadata_v2.specs.Document.{document_v2_in, document_v2_from};
+ghost use Rattle.zarrs_metadata_v2.specs.View.{document_v2_view, AreParts};
 
 use crate::document::ArrayMetadataV2;
 use crate::order::ArrayMetadataV2Order;
 use serde_json::{Map, Value};
 use std::alloc::{AllocError, Global};
 use std::num::NonZeroU64;
-use zarrs_metadata_parts::{ChunkKeySeparator, DataTypeMetadataV2, FillValueMetadata};
+use zarrs_metadata_parts::{ChunkKeySeparator, DataTypeMetadataV2};
+use zarrs_metadata_v3::Unread;
 use zarrs_metadata_v3::members::{
-    fill_value_in, items_in, members_in, numbers_in, object_of, reads_as_number, take_member,
+    attributes_in, fault, fill_value_in, numbers_in, present, reads_as_number, take_member,
 };
 
 /// The members of a document.
@@ -35,168 +37,62 @@ pub(crate) struct Parts {
     attributes: Option<Value>,
 }
 
-/// The members of a document, each read: `None` for a member that is absent or of another
-/// shape.
-#[derive(Drop)]
-pub(crate) struct Draft {
-    shape: Option<Vec<u64>>,
-    chunks: Option<Vec<NonZeroU64>>,
-    dtype: Option<DataTypeMetadataV2>,
-    compressor: Option<Value>,
-    fill_value: Option<FillValueMetadata>,
-    order: Option<ArrayMetadataV2Order>,
-    filters: Option<Value>,
-    dimension_separator: Option<ChunkKeySeparator>,
-    attributes: Option<Map<String, Value>>,
-}
-
-/// Reads the document that a JSON value is.
+/// Reads the document that these members are.
+///
+/// # Errors
+/// `Missing` or `Wrong` for the first member that does not read. `OutOfMemory` may come at any time.
 pub(crate) fn read_document(
     alloc: Global,
-    value: Value,
-) -> Result<Option<ArrayMetadataV2>, AllocError>
-    ensures { IfOk result (λ o. option_map document_v2_view o ≡ document_v2_of (view value)) }
-{
-    match object_of(value) {
-        Some(members) => document_from(alloc, Parts::take(members)),
-        None => Ok(None),
-    }
-}
-
-fn document_from(alloc: Global, parts: Parts) -> Result<Option<ArrayMetadataV2>, AllocError>
-    ensures { IfOk result (λ o. option_map document_v2_view o
-        ≡ document_v2_from (parts_v2_view parts)) }
-{
-    if reads_as_number(&parts.zarr_format, 2) {
-        let draft = parts.read(alloc)?;
-        Ok(draft.assemble())
-    } else {
-        Ok(None)
-    }
-}
-
-/// Returns a member of these that is of another shape than a document has it, and what it is to be.
-pub(crate) fn wrong_member(
-    alloc: Global,
     members: Map<String, Value>,
-) -> Result<Option<&'static str>, AllocError> {
-    let draft = Parts::take(members).read(alloc)?;
-    Ok(draft.wrong_member())
+) -> Result<ArrayMetadataV2, Unread>
+    ensures { Reads document_v2_view (document_v2_from (members_view members.entries)) result }
+{
+    document_from(alloc, Parts::take(members))
+}
+
+fn document_from(alloc: Global, parts: Parts) -> Result<ArrayMetadataV2, Unread>
+    ensures { (ms : Members) → AreParts ms parts
+        → Reads document_v2_view (document_v2_from ms) result }
+{
+    if !reads_as_number(&parts.zarr_format, 2) {
+        return Err(fault(&parts.zarr_format, "zarr_format", "is not 2"));
+    }
+    parts.read(alloc)
 }
 
 impl Parts {
     fn take(mut members: Map<String, Value>) -> Parts
-        ensures { parts_v2_view result ≡ parts_of_v2 (members_view members.entries) }
+        ensures { AreParts (members_view members.entries) result }
     {
-        let zarr_format = take_member(&mut members, "zarr_format");
-        let shape = take_member(&mut members, "shape");
-        let chunks = take_member(&mut members, "chunks");
-        let dtype = take_member(&mut members, "dtype");
-        let compressor = take_member(&mut members, "compressor");
-        let fill_value = take_member(&mut members, "fill_value");
-        let order = take_member(&mut members, "order");
-        let filters = take_member(&mut members, "filters");
-        let dimension_separator = take_member(&mut members, "dimension_separator");
-        let attributes = take_member(&mut members, "attributes");
         Parts {
-            zarr_format,
-            shape,
-            chunks,
-            dtype,
-            compressor,
-            fill_value,
-            order,
-            filters,
-            dimension_separator,
-            attributes,
+            zarr_format: take_member(&mut members, "zarr_format"),
+            shape: take_member(&mut members, "shape"),
+            chunks: take_member(&mut members, "chunks"),
+            dtype: take_member(&mut members, "dtype"),
+            compressor: take_member(&mut members, "compressor"),
+            fill_value: take_member(&mut members, "fill_value"),
+            order: take_member(&mut members, "order"),
+            filters: take_member(&mut members, "filters"),
+            dimension_separator: take_member(&mut members, "dimension_separator"),
+            attributes: take_member(&mut members, "attributes"),
         }
     }
 
-    fn read(self, alloc: Global) -> Result<Draft, AllocError>
-        ensures { IfOk result (λ draft. draft_v2_view draft ≡ draft_of_v2 (parts_v2_view self)) }
+    fn read(self, alloc: Global) -> Result<ArrayMetadataV2, Unread>
+        ensures { (ms : Members) → AreParts ms self
+            → Reads document_v2_view (document_v2_in ms) result }
     {
-        let Parts {
-            zarr_format: _zarr_format,
-            shape,
-            chunks,
-            dtype,
-            compressor,
-            fill_value,
-            order,
-            filters,
-            dimension_separator,
-            attributes,
-        } = self;
-        let shape = numbers_in(alloc, shape)?;
-        let chunks = sizes_in(alloc, chunks)?;
-        Ok(Draft {
-            shape,
-            chunks,
-            dtype: data_type_in(dtype),
-            compressor,
-            fill_value: fill_value_in(fill_value),
-            order: order_in(order),
-            filters,
-            dimension_separator: dimension_separator_in(dimension_separator),
-            attributes: members_in(alloc, attributes),
+        Ok(ArrayMetadataV2 {
+            shape: numbers_in(alloc, self.shape, "shape")?,
+            chunks: sizes_in(alloc, self.chunks)?,
+            dtype: data_type_in(self.dtype)?,
+            compressor: present(self.compressor, "compressor")?,
+            fill_value: fill_value_in(self.fill_value)?,
+            order: order_in(self.order)?,
+            filters: present(self.filters, "filters")?,
+            dimension_separator: dimension_separator_in(self.dimension_separator)?,
+            attributes: attributes_in(alloc, self.attributes)?,
         })
-    }
-}
-
-impl Draft {
-    #[tactic(auto, unfolding(crate::specs::Document::assembled_v2))]
-    fn assemble(self) -> Option<ArrayMetadataV2>
-        ensures { option_map document_v2_view result ≡ assembled_v2 (draft_v2_view self) }
-    {
-        let Draft {
-            shape,
-            chunks,
-            dtype,
-            compressor,
-            fill_value,
-            order,
-            filters,
-            dimension_separator,
-            attributes,
-        } = self;
-        Some(ArrayMetadataV2 {
-            shape: shape?,
-            chunks: chunks?,
-            dtype: dtype?,
-            compressor: compressor?,
-            fill_value: fill_value?,
-            order: order?,
-            filters: filters?,
-            dimension_separator: dimension_separator?,
-            attributes: attributes?,
-        })
-    }
-
-    /// Returns the first member that is of another shape, and what it is to be.
-    fn wrong_member(&self) -> Option<&'static str> {
-        let members = [
-            (
-                self.shape.is_some(),
-                "`shape` is no list of whole numbers below 2^64",
-            ),
-            (
-                self.chunks.is_some(),
-                "`chunks` is no list of whole numbers from 1 to 2^64 - 1",
-            ),
-            (self.dtype.is_some(), "`dtype` is no text"),
-            (self.order.is_some(), "`order` is neither `C` nor `F`"),
-            (
-                self.dimension_separator.is_some(),
-                "`dimension_separator` is neither `.` nor `/`",
-            ),
-            (self.attributes.is_some(), "`attributes` is no object"),
-        ];
-        for (is_read, reason) in members {
-            if !is_read {
-                return Some(reason);
-            }
-        }
-        None
     }
 }
 
@@ -220,39 +116,49 @@ fn all_sizes(alloc: Global, items: Vec<Value>) -> Result<Option<Vec<NonZeroU64>>
     Ok(Some(sizes))
 }
 
-fn sizes_in(alloc: Global, member: Option<Value>) -> Result<Option<Vec<NonZeroU64>>, AllocError>
+fn sizes_of(alloc: Global, value: Value) -> Result<Option<Vec<NonZeroU64>>, AllocError>
     ensures { IfOk result (λ o. option_map (λ v. map non_zero_u64_get v.items) o
-        ≡ list_in non_zero_size (option_map view member)) }
+        ≡ list_of non_zero_size (view value)) }
 {
-    match items_in(member) {
-        Some(items) => all_sizes(alloc, items),
-        None => Ok(None),
+    match value {
+        Value::Array(items) => all_sizes(alloc, items),
+        _ => Ok(None),
     }
 }
 
-fn data_type_in(member: Option<Value>) -> Option<DataTypeMetadataV2>
-    ensures { result ≡ option_and_then as_str (option_map view member) }
+fn sizes_in(alloc: Global, member: Option<Value>) -> Result<Vec<NonZeroU64>, Unread>
+    ensures { Reads (λ v. map non_zero_u64_get v.items)
+        (list_in non_zero_size (option_map view member)) result }
 {
-    match member {
-        Some(value) => DataTypeMetadataV2::from_value(value),
-        None => None,
-    }
+    let value = present(member, "chunks")?;
+    sizes_of(alloc, value)?.ok_or(Unread::Wrong(
+        "chunks",
+        "is no list of whole numbers from 1 to 2^64 - 1",
+    ))
 }
 
-fn order_in(member: Option<Value>) -> Option<ArrayMetadataV2Order>
-    ensures { result ≡ option_and_then chunk_order_of (option_map view member) }
+fn data_type_in(member: Option<Value>) -> Result<DataTypeMetadataV2, Unread>
+    ensures { Reads (λ m. m) (option_and_then as_str (option_map view member)) result }
 {
-    match member {
-        Some(value) => ArrayMetadataV2Order::from_value(&value),
-        None => None,
-    }
+    let value = present(member, "dtype")?;
+    DataTypeMetadataV2::from_value(value).ok_or(Unread::Wrong("dtype", "is no text"))
 }
 
-fn dimension_separator_in(member: Option<Value>) -> Option<ChunkKeySeparator>
-    ensures { result ≡ dimension_separator_in (option_map view member) }
+fn order_in(member: Option<Value>) -> Result<ArrayMetadataV2Order, Unread>
+    ensures { Reads (λ order. order) (option_and_then chunk_order_of (option_map view member))
+        result }
 {
+    let value = present(member, "order")?;
+    ArrayMetadataV2Order::from_value(&value).ok_or(Unread::Wrong("order", "is neither `C` nor `F`"))
+}
+
+fn dimension_separator_in(member: Option<Value>) -> Result<ChunkKeySeparator, Unread>
+    ensures { Reads (λ separator. separator) (dimension_separator_in (option_map view member))
+        result }
+{
+    let wrong = Unread::Wrong("dimension_separator", "is neither `.` nor `/`");
     match member {
-        Some(value) => ChunkKeySeparator::from_value(&value),
-        None => Some(ChunkKeySeparator::Dot),
+        Some(value) => ChunkKeySeparator::from_value(&value).ok_or(wrong),
+        None => Ok(ChunkKeySeparator::Dot),
     }
 }

@@ -2,27 +2,13 @@
 ghost use Rattle.std.specs.Prelude.{◌≡◌, Some, option_map, IfOk, IfErr};
 ghost use Rattle.serde_json.specs.View.{view, members_view};
 ghost use Rattle.zarrs_metadata_v3.specs.Refusals.{RefusesReading};
-ghost use Rattle.zarrs_metadata_v2.specs.Document.{value_said, plain_members_of, attributes_said, IsAttributesText};
+ghost use Rattle.zarrs_metadata_v2.specs.Document.{plain_members_of, attributes_said, IsAttributesText};
 
-use serde_json::{Category, Map, Value};
+use serde_json::{Map, Value};
 use std::alloc::{AllocError, Global};
 use zarrs_metadata_parts::MetadataError;
 use zarrs_metadata_v3::holds_float;
-use zarrs_metadata_v3::members::{copied, object_of};
-
-/// Reads the JSON value that bytes are.
-pub(crate) fn value_from_slice(alloc: Global, bytes: &[u8]) -> Result<Value, MetadataError>
-    ensures read { IfOk result (λ value. value_said bytes.now ≡ Some (view value)) }
-    ensures refused { IfErr result (RefusesReading (value_said bytes.now)) }
-{
-    match Value::from_slice(alloc, bytes) {
-        Ok(value) => Ok(value),
-        Err(error) => match error.classify() {
-            Category::Memory => Err(MetadataError::OutOfMemory),
-            _ => Err(MetadataError::InvalidShape),
-        },
-    }
-}
+use zarrs_metadata_v3::members::{copied, object_of, value_from_slice};
 
 fn plain_members(value: Value) -> Option<Map<String, Value>>
     ensures { option_map (λ m. members_view m.entries) result ≡ plain_members_of (view value) }

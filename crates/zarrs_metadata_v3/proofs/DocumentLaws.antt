@@ -35,7 +35,7 @@ written_in_turn m v_zarr_format v_node_type v_shape v_data_type v_chunk_grid v_c
 
 -- ---- what a written document reads as
 
-document_in_all : (ms : Members) (m : DocumentData)
+pub document_in_all : (ms : Members) (m : DocumentData)
     → option_and_then numbers_of (get_member (codes "shape") ms) ≡ Some m.shape → option_and_then extension_of (get_member (codes "data_type") ms) ≡ Some m.data_type → option_and_then extension_of (get_member (codes "chunk_grid") ms) ≡ Some m.chunk_grid
     → option_and_then extension_of (get_member (codes "chunk_key_encoding") ms) ≡ Some m.chunk_key_encoding → get_member (codes "fill_value") ms ≡ Some m.fill_value → list_in extension_of (get_member (codes "codecs") ms) ≡ Some m.codecs
     → members_in (get_member (codes "attributes") ms) ≡ Some m.attributes → transformers_in (get_member (codes "storage_transformers") ms) ≡ Some m.storage_transformers → names_in (get_member (codes "dimension_names") ms) ≡ Some m.dimension_names

@@ -5,3 +5,5 @@ pub mod PartsLemmas
 pub mod DocumentLaws
 pub mod TextLaws
 pub mod NormalLaws
+pub mod RefusalLaws
+pub mod ReadingLaws

@@ -1,7 +1,7 @@
 -- The V3 document of an array (Zarr V3 core specification, array metadata), and the JSON values that read as one.
-use Rattle.std.specs.Prelude.{◌≡◌, ◌≤◌, ℕ, List, [], ◌∷◌, ◌&&◌, map, Bool, true, false, codes, if◌then◌else◌, Option}
+use Rattle.std.specs.Prelude.{◌≡◌, ◌≤◌, ℕ, List, [], ◌∷◌, ◌&&◌, map, Bool, false, codes, if◌then◌else◌, Option}
 use Rattle.std.specs.Prelude.{Some, None, option_map, option_and_then}
-use Rattle.std.specs.Str.{is_utf8, IsUtf8}
+use Rattle.std.specs.Str.{IsUtf8}
 use Rattle.json.specs.Lex.{tokens}
 use Rattle.json.specs.Layout.{pretty}
 use Rattle.serde_json.specs.Data.{Data, depth, null, boolean, number, string, array, object, Members, no_members, member}
@@ -10,8 +10,8 @@ use Rattle.serde_json.specs.Written.{has_float, IsInOrder}
 use Rattle.serde_json.specs.Read.{read, max_depth}
 use Rattle.zarrs_metadata_parts.specs.Members.{besides}
 use Rattle.zarrs_metadata_parts.specs.Lists.{all_of, list_data, numbers_of, numbers_data, number_data}
-use Rattle.zarrs_metadata_parts.specs.Extension.{◌>>=◌, ExtensionData, normal, extension_of, extension_data}
-use Rattle.zarrs_metadata_v3.specs.Members.{reads_as_text, reads_as_number, list_in, members_in, object_data, put_all}
+use Rattle.zarrs_metadata_parts.specs.Extension.{◌>>=◌, ExtensionData, normal, extension_of, extension_data, extension_with_member}
+use Rattle.zarrs_metadata_v3.specs.Members.{value_said, reads_as_text, reads_as_number, list_in, members_in, object_data, put_all}
 use Rattle.zarrs_metadata_v3.specs.Fields.{FieldData, fields_of, fields_data, normal_fields}
 
 -- the metadata of an array; a dimension may have no name
@@ -29,8 +29,7 @@ pub record DocumentData : Type 0 where
 
 -- the name and the configuration of `default` keys with `/`
 abbrev pub default_keys : ExtensionData
-default_keys =
-    record { name = codes "default"; configuration = Some (member (codes "separator") (string (codes "/")) no_members); must_understand = true }
+default_keys = extension_with_member (codes "default") (codes "separator") (string (codes "/"))
 
 -- the metadata of these parts with `default` keys, and nothing that may be absent
 abbrev pub plain_document : List ℕ → ExtensionData → ExtensionData → Data → List ExtensionData → DocumentData
@@ -122,7 +121,7 @@ plain_document_of d = if has_float d then None else document_of d
 
 -- the document that bytes read as
 unfoldable pub document_said : List ℕ → Option DocumentData
-document_said bytes = if is_utf8 bytes then option_and_then plain_document_of (read bytes) else None
+document_said bytes = option_and_then plain_document_of (value_said bytes)
 
 -- ---- written
 

@@ -1,11 +1,17 @@
 -- The members of a document, read and written by name.
-use Rattle.std.specs.Prelude.{ℕ, List, [], ◌∷◌, ◌==◌, Bool, false, bytes_eq, Option, Some, None, option_map, option_and_then, unwrap_or}
+use Rattle.std.specs.Prelude.{ℕ, List, [], ◌∷◌, ◌==◌, Bool, false, bytes_eq, if◌then◌else◌, Option, Some, None, option_map, option_and_then, unwrap_or}
+use Rattle.std.specs.Str.{is_utf8}
 use Rattle.serde_json.specs.Data.{Data, object, Members, no_members, put}
 use Rattle.serde_json.specs.Find.{as_str, as_array, as_object}
+use Rattle.serde_json.specs.Read.{read}
 use Rattle.zarrs_metadata_parts.specs.Members.{nonempty}
 use Rattle.zarrs_metadata_parts.specs.Lists.{all_of, number_of}
 
 -- ---- read
+
+-- the JSON value that bytes read as
+unfoldable pub value_said : List ℕ → Option Data
+value_said bytes = if is_utf8 bytes then read bytes else None
 
 -- the member is this text
 abbrev pub reads_as_text : List ℕ → Option Data → Bool

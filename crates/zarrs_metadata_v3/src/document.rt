@@ -8,12 +8,13 @@ ghost use Rattle.zarrs_metadata_v3.specs.Document.{plain_document, data_of_docum
 ghost use Rattle.zarrs_metadata_v3.specs.Refusals.{RefusesReading};
 ghost use Rattle.zarrs_metadata_v3.specs.View.{name_view, fields_view, document_view};
 
-use crate::copying::copied_document;
-use crate::fields::AdditionalFieldsV3;
+use crate::copying::{copied_dimension_names, copied_extensions};
+use crate::fields::{AdditionalFieldsV3, copied_fields};
+use crate::members::{copied, object_of, value_from_slice};
 use crate::numbers::holds_float;
 use crate::reading::read_document;
 use crate::writing::document_value;
-use serde_json::{Category, Map, Value};
+use serde_json::{Map, Value};
 use std::alloc::{AllocError, Global};
 use zarrs_metadata_parts::{ChunkKeySeparator, FillValueMetadata, MetadataError, MetadataV3};
 
@@ -65,8 +66,9 @@ impl ArrayMetadataV3 {
             (fill_data fill_value) (map extension_view codecs.items)) }
     {
         let separator = ChunkKeySeparator::Slash.to_value(alloc)?;
-        let chunk_key_encoding = MetadataV3::new(String::from_str(alloc, "default")?).with_member(
+        let chunk_key_encoding = MetadataV3::with_one_member(
             alloc,
+            "default",
             "separator",
             separator,
         )?;
@@ -91,11 +93,22 @@ impl ArrayMetadataV3 {
     pub fn try_clone(&self, alloc: Global) -> Result<ArrayMetadataV3, AllocError>
         ensures { IfOk result (λ copy. document_view copy ≡ document_view self.now) }
     {
-        copied_document(alloc, self)
+        Ok(ArrayMetadataV3 {
+            shape: Vec::from_slice(alloc, self.shape.as_slice())?,
+            data_type: self.data_type.try_clone()?,
+            chunk_grid: self.chunk_grid.try_clone()?,
+            chunk_key_encoding: self.chunk_key_encoding.try_clone()?,
+            fill_value: self.fill_value.try_clone(alloc)?,
+            codecs: copied_extensions(&self.codecs)?,
+            attributes: copied(&self.attributes)?,
+            storage_transformers: copied_extensions(&self.storage_transformers)?,
+            dimension_names: copied_dimension_names(alloc, &self.dimension_names)?,
+            additional_fields: copied_fields(&self.additional_fields)?,
+        })
     }
 
     /// Returns the metadata with these attributes.
-    pub fn with_attributes(self, attributes: Map<String, Value>) -> ArrayMetadataV3
+    pub fn with_attributes(self, attributes: Map<String, Value>) -> Self
         ensures { document_view result
             ≡ record (document_view self) { attributes = members_view attributes.entries } }
     {
@@ -104,54 +117,43 @@ impl ArrayMetadataV3 {
 
     /// Returns the metadata with these additional fields. A field under the name of a member of
     /// this document is not written.
-    pub fn with_additional_fields(self, additional_fields: AdditionalFieldsV3) -> ArrayMetadataV3
+    pub fn with_additional_fields(mut self, additional_fields: AdditionalFieldsV3) -> Self
         ensures { document_view result ≡ record (document_view self) {
           additional_fields = fields_view additional_fields.entries;
         } }
     {
-        ArrayMetadataV3 {
-            additional_fields,
-            ..self
-        }
+        self.additional_fields = additional_fields;
+        self
     }
 
     /// Returns the metadata with this chunk key encoding.
-    pub fn with_chunk_key_encoding(self, chunk_key_encoding: MetadataV3) -> ArrayMetadataV3
+    pub fn with_chunk_key_encoding(mut self, chunk_key_encoding: MetadataV3) -> Self
         ensures { document_view result ≡ record (document_view self) {
           chunk_key_encoding = extension_view chunk_key_encoding;
         } }
     {
-        ArrayMetadataV3 {
-            chunk_key_encoding,
-            ..self
-        }
+        self.chunk_key_encoding = chunk_key_encoding;
+        self
     }
 
     /// Returns the metadata with these names of dimensions.
-    pub fn with_dimension_names(
-        self,
-        dimension_names: Option<Vec<DimensionName>>,
-    ) -> ArrayMetadataV3
+    pub fn with_dimension_names(mut self, dimension_names: Option<Vec<DimensionName>>) -> Self
         ensures { document_view result ≡ record (document_view self) {
           dimension_names = option_map (λ names. map name_view names.items) dimension_names;
         } }
     {
-        ArrayMetadataV3 {
-            dimension_names,
-            ..self
-        }
+        self.dimension_names = dimension_names;
+        self
     }
 
     /// Returns the metadata with these storage transformers.
-    pub fn with_storage_transformers(self, storage_transformers: Vec<MetadataV3>) -> ArrayMetadataV3
+    pub fn with_storage_transformers(mut self, storage_transformers: Vec<MetadataV3>) -> Self
         ensures { document_view result ≡ record (document_view self) {
           storage_transformers = map extension_view storage_transformers.items;
         } }
     {
-        ArrayMetadataV3 {
-            storage_transformers,
-            ..self
-        }
+        self.storage_transformers = storage_transformers;
+        self
     }
 
     /// Reads the document that a JSON value is.
@@ -168,11 +170,8 @@ impl ArrayMetadataV3 {
         if holds_float(&value) {
             return Err(MetadataError::InvalidShape);
         }
-        match read_document(alloc, value) {
-            Ok(Some(document)) => Ok(document),
-            Ok(None) => Err(MetadataError::InvalidShape),
-            Err(_) => Err(MetadataError::OutOfMemory),
-        }
+        let members = object_of(value).ok_or(MetadataError::InvalidShape)?;
+        Ok(read_document(alloc, members)?)
     }
 
     /// Returns the JSON value of this document. Empty attributes, empty storage transformers,
@@ -193,18 +192,14 @@ impl ArrayMetadataV3 {
     ///
     /// # Errors
     /// `InvalidShape` for any other bytes. `OutOfMemory` may come at any time.
+    #[tactic(auto, unfolding(crate::specs::Document::document_said))]
     pub fn from_slice(alloc: Global, bytes: &[u8]) -> Result<ArrayMetadataV3, MetadataError>
         ensures read { IfOk result (λ m. document_said bytes.now ≡ Some (document_view m)) }
         ensures normal { IfOk result (λ m. normal_document (document_view m) ≡ document_view m) }
         ensures refused { IfErr result (RefusesReading (document_said bytes.now)) }
     {
-        match Value::from_slice(alloc, bytes) {
-            Ok(value) => ArrayMetadataV3::from_value(alloc, value),
-            Err(error) => match error.classify() {
-                Category::Memory => Err(MetadataError::OutOfMemory),
-                _ => Err(MetadataError::InvalidShape),
-            },
-        }
+        let value = value_from_slice(alloc, bytes)?;
+        ArrayMetadataV3::from_value(alloc, value)
     }
 
     /// Returns the bytes that are stored for the document: its JSON value, indented.

@@ -18,8 +18,10 @@ pub mod members;
 mod numbers;
 mod reading;
 pub mod reasons;
+mod unread;
 mod writing;
 
 pub use document::{ArrayMetadataV3, DimensionName};
 pub use fields::{AdditionalFieldV3, AdditionalFieldsV3};
 pub use numbers::holds_float;
+pub use unread::Unread;

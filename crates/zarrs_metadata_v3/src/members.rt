@@ -1,16 +1,35 @@
 //! Steps on the members of an object.
-ghost use Rattle.std.specs.Prelude.{◌≡◌, [], ◌∷◌, option_map, option_and_then, IfOk, OnOk, is_none};
+ghost use Rattle.std.specs.Prelude.{◌≡◌, option_map, option_and_then, Some, IfOk, IfErr, OnOk, is_none};
 ghost use Rattle.serde_json.specs.Find.{get_member, as_array, as_object};
 ghost use Rattle.serde_json.specs.View.{view, items_view, members_view};
-ghost use Rattle.zarrs_metadata_parts.specs.Members.{besides, nonempty};
+ghost use Rattle.zarrs_metadata_parts.specs.Members.{nonempty};
 ghost use Rattle.zarrs_metadata_parts.specs.Lists.{numbers_of};
 ghost use Rattle.zarrs_metadata_parts.specs.FillValue.{fill_data};
-ghost use Rattle.zarrs_metadata_v3.specs.Members.{reads_as_text, reads_as_number, members_in, object_data, put_some};
+ghost use Rattle.zarrs_metadata_v3.specs.Members.{reads_as_text, reads_as_number, members_in, object_data, put_some, value_said};
+ghost use Rattle.zarrs_metadata_v3.specs.Refusals.{Reads, RefusesReading, metadata_error_of};
 
-use serde_json::{Map, Value};
+use crate::unread::Unread;
+use serde_json::{Category, Map, Value};
 use std::alloc::{AllocError, Global};
 pub use zarrs_metadata_parts::members::{copied, object_of, take_member};
-use zarrs_metadata_parts::{FillValueMetadata, numbers};
+use zarrs_metadata_parts::{FillValueMetadata, MetadataError, numbers};
+
+/// Reads the JSON value that bytes are.
+///
+/// # Errors
+/// `InvalidShape` for bytes that are none, and for one that nests deeper than 127. `OutOfMemory` may come at any time.
+pub fn value_from_slice(alloc: Global, bytes: &[u8]) -> Result<Value, MetadataError>
+    ensures read { IfOk result (λ value. value_said bytes.now ≡ Some (view value)) }
+    ensures refused { IfErr result (RefusesReading (value_said bytes.now)) }
+{
+    match Value::from_slice(alloc, bytes) {
+        Ok(value) => Ok(value),
+        Err(error) => match error.classify() {
+            Category::Memory => Err(MetadataError::OutOfMemory),
+            _ => Err(MetadataError::InvalidShape),
+        },
+    }
+}
 
 /// Returns the member of this name.
 pub fn member_of<'a>(members: &'a Map<String, Value>, name: &str) -> Option<&'a Value>
@@ -39,44 +58,58 @@ pub fn put_member(
     }
 }
 
-fn list_of(value: Value) -> Option<Vec<Value>>
-    ensures { option_map (λ v. items_view v.items) result ≡ as_array (view value) }
-{
-    match value {
-        Value::Array(items) => Some(items),
-        _ => None,
-    }
-}
-
 /// Returns the items of a list, or `None` for any other value and for an absent one.
 pub fn items_in(member: Option<Value>) -> Option<Vec<Value>>
     ensures { option_map (λ v. items_view v.items) result
         ≡ option_and_then as_array (option_map view member) }
 {
     match member {
-        Some(value) => list_of(value),
-        None => None,
+        Some(Value::Array(items)) => Some(items),
+        _ => None,
     }
 }
 
-/// Returns the fill value that the member says.
-pub fn fill_value_in(member: Option<Value>) -> Option<FillValueMetadata>
-    ensures { option_map fill_data result ≡ option_map view member }
+/// Returns the member of this name, which must be there.
+///
+/// # Errors
+/// `Missing` if it is not.
+pub fn present(member: Option<Value>, name: &'static str) -> Result<Value, Unread>
+    ensures { Reads view (option_map view member) result }
+{
+    member.ok_or(Unread::Missing(name))
+}
+
+/// Returns what is wrong with a member that does not read.
+pub fn fault(member: &Option<Value>, name: &'static str, is: &'static str) -> Unread
+    ensures { metadata_error_of result ≡ MetadataError.InvalidShape }
 {
     match member {
-        Some(value) => Some(FillValueMetadata::from_value(value)),
-        None => None,
+        Some(_) => Unread::Wrong(name, is),
+        None => Unread::Missing(name),
     }
 }
 
-/// Returns the members of an object; an absent object is empty.
-pub fn members_in(alloc: Global, member: Option<Value>) -> Option<Map<String, Value>>
-    ensures { option_map (λ m. members_view m.entries) result
-        ≡ members_in (option_map view member) }
+/// Reads the fill value that the member is.
+///
+/// # Errors
+/// `Missing` if there is none.
+pub fn fill_value_in(member: Option<Value>) -> Result<FillValueMetadata, Unread>
+    ensures { Reads fill_data (option_map view member) result }
+{
+    let value = present(member, "fill_value")?;
+    Ok(FillValueMetadata::from_value(value))
+}
+
+/// Reads the attributes that the member is; absent ones are empty.
+///
+/// # Errors
+/// `Wrong` if it is no object.
+pub fn attributes_in(alloc: Global, member: Option<Value>) -> Result<Map<String, Value>, Unread>
+    ensures { Reads (λ m. members_view m.entries) (members_in (option_map view member)) result }
 {
     match member {
-        Some(value) => object_of(value),
-        None => Some(Map::new(alloc)),
+        Some(value) => object_of(value).ok_or(Unread::Wrong("attributes", "is no object")),
+        None => Ok(Map::new(alloc)),
     }
 }
 
@@ -107,10 +140,7 @@ pub fn reads_as_number(member: &Option<Value>, wanted: u64) -> bool
     ensures { result ≡ reads_as_number wanted (option_map view member.now) }
 {
     match member {
-        Some(value) => match value.as_u64() {
-            Some(number) => number == wanted,
-            None => false,
-        },
+        Some(value) => matches!(value.as_u64(), Some(number) if number == wanted),
         None => false,
     }
 }
@@ -120,24 +150,22 @@ pub fn reads_as_text(member: &Option<Value>, wanted: &str) -> bool
     ensures { result ≡ reads_as_text wanted.now (option_map view member.now) }
 {
     match member {
-        Some(value) => match value.as_str() {
-            Some(text) => text == wanted,
-            None => false,
-        },
+        Some(value) => matches!(value.as_str(), Some(text) if text == wanted),
         None => false,
     }
 }
 
-/// Reads the list of whole numbers below 2^64 that the member is.
+/// Reads the list of whole numbers below 2^64 that the member of this name is.
 ///
 /// # Errors
-/// `AllocError`: out of memory.
-pub fn numbers_in(alloc: Global, member: Option<Value>) -> Result<Option<Vec<u64>>, AllocError>
-    ensures { IfOk result (λ o. option_map (λ v. v.items) o
-        ≡ option_and_then numbers_of (option_map view member)) }
+/// `Missing`, or `Wrong` for anything else. `OutOfMemory` may come at any time.
+pub fn numbers_in(
+    alloc: Global,
+    member: Option<Value>,
+    name: &'static str,
+) -> Result<Vec<u64>, Unread>
+    ensures { Reads (λ v. v.items) (option_and_then numbers_of (option_map view member)) result }
 {
-    match member {
-        Some(value) => numbers(alloc, &value),
-        None => Ok(None),
-    }
+    let value = present(member, name)?;
+    numbers(alloc, &value)?.ok_or(Unread::Wrong(name, "is no list of whole numbers below 2^64"))
 }

@@ -1,13 +1,14 @@
 //! Why stored bytes are no document of a V3 array, as a text for people. It is made only once a document was refused.
 use crate::members::member_of;
 use crate::numbers::holds_float;
-use crate::reading::wrong_member;
-use serde_json::{Category, Error, Map, Value};
+use crate::reading::read_document;
+use crate::unread::Unread;
+use serde_json::{Category, Map, Value};
 use std::alloc::{AllocError, Global};
 use zarrs_metadata_parts::members::object_of;
 
-/// Returns why the bytes are no V3 document: where they are no JSON, or the member that is missing, of another shape, or
-/// holds a number that is no integer of 64 bits. A float type is named as such.
+/// Returns why the bytes are no V3 document: where they are no JSON, or the first member that is missing, of another
+/// shape, or holds a number that is no integer of 64 bits. A float type is named as such.
 ///
 /// # Errors
 /// `AllocError`: out of memory.
@@ -16,40 +17,21 @@ pub fn document_reason(alloc: Global, bytes: &[u8]) -> Result<String, AllocError
         Ok(members) => members,
         Err(reason) => return Ok(reason),
     };
-    if let Some(reason) = float_reason(alloc, &members, named_type(&members))? {
-        return Ok(reason);
+    match float_reason(alloc, &members, named_type(&members))? {
+        Some(reason) => Ok(reason),
+        None => read_reason(alloc, read_document(alloc, members)),
     }
-    if let Some(reason) = other_kind(&members) {
-        return String::from_str(alloc, reason);
-    }
-    let required = [
-        "zarr_format",
-        "node_type",
-        "shape",
-        "data_type",
-        "chunk_grid",
-        "chunk_key_encoding",
-        "fill_value",
-        "codecs",
-    ];
-    if let Some(name) = missing_member(&members, &required) {
-        return format!(in alloc; "`{name}` is missing");
-    }
-    let reason = wrong_member(alloc, members)?.unwrap_or("it is no document of a Zarr V3 array");
-    String::from_str(alloc, reason)
 }
 
-/// Returns which member says that the document is one of something else, if one does.
-fn other_kind(members: &Map<String, Value>) -> Option<&'static str> {
-    if let Some(format) = member_of(members, "zarr_format") {
-        match format.as_u64() {
-            Some(3) => {}
-            _ => return Some("`zarr_format` is not 3"),
-        }
-    }
-    match member_of(members, "node_type")?.as_str() {
-        Some("array") => None,
-        _ => Some("`node_type` is not `array`"),
+/// Returns why a document was not read.
+///
+/// # Errors
+/// `AllocError`: out of memory.
+pub fn read_reason<T: Drop>(alloc: Global, read: Result<T, Unread>) -> Result<String, AllocError> {
+    match read {
+        Err(Unread::OutOfMemory) => Err(AllocError),
+        Err(error) => format!(in alloc; "{error}"),
+        Ok(_) => String::from_str(alloc, "it is read"),
     }
 }
 
@@ -66,14 +48,10 @@ pub fn members_from_slice(
             Some(members) => Ok(Ok(members)),
             None => Ok(Err(String::from_str(alloc, "it is no JSON object")?)),
         },
-        Err(error) => Ok(Err(json_reason(alloc, &error)?)),
-    }
-}
-
-fn json_reason(alloc: Global, error: &Error) -> Result<String, AllocError> {
-    match error.classify() {
-        Category::Memory => Err(AllocError),
-        _ => format!(in alloc; "{error}"),
+        Err(error) => match error.classify() {
+            Category::Memory => Err(AllocError),
+            _ => Ok(Err(format!(in alloc; "{error}")?)),
+        },
     }
 }
 
@@ -106,10 +84,7 @@ pub fn float_reason(
 /// # Errors
 /// `AllocError`: out of memory.
 pub fn type_reason(alloc: Global, name: Option<&str>) -> Result<Option<String>, AllocError> {
-    let Some(name) = name else {
-        return Ok(None);
-    };
-    let Some(numbers) = unsupported_numbers(name) else {
+    let (Some(name), Some(numbers)) = (name, name.and_then(unsupported_numbers)) else {
         return Ok(None);
     };
     Ok(Some(format!(in alloc; "`{name}`: {numbers} are not supported")?))
@@ -137,19 +112,6 @@ fn named_type(members: &Map<String, Value>) -> Option<&str> {
         Value::String(name) => Some(name.as_str()),
         _ => data_type.get("name")?.as_str(),
     }
-}
-
-/// Returns the first of these names of which there is no member.
-pub fn missing_member(
-    members: &Map<String, Value>,
-    names: &[&'static str],
-) -> Option<&'static str> {
-    for name in names {
-        if member_of(members, name).is_none() {
-            return Some(name);
-        }
-    }
-    None
 }
 
 /// Returns why a codec of this name is not supported, if it is known as one that compresses or checks bytes.

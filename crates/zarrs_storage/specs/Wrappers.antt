@@ -1,6 +1,6 @@
 -- Stores over a store.
 use Rattle.std.specs.Prelude.{◌≡◌, ℕ, ◌+◌, ◌==◌, ◌&&◌, ◌||◌, Bool, false, not, nat_lt, List, ◌∷◌}
-use Rattle.std.specs.Prelude.{Option, Some, None, Result, MatchResult, true, codes, OnOk, OnErr, IsErrOf, IsErrAnd}
+use Rattle.std.specs.Prelude.{Option, Some, None, Result, MatchResult, true, codes, IfOk, IfErr, OnOk, OnErr, IsErrOf, IsErrAnd}
 use Rattle.std.specs.Borrow.{MutBor}
 use Rattle.zarrs_storage.specs.Refusals.{SaysOther}
 use Rattle.zarrs_storage.specs.Store.{StoreState, Values, Accepts, Refuses, AcceptsPartial, RefusesPartial, is_listed, last_call}
@@ -42,6 +42,16 @@ fence_store fence = fence.store
 abbrev pub fence_keys : {S : Type 0} → Fence S → List (List ℕ)
 fence_keys fence = fence.keys.items
 
+-- ---- reads
+
+-- A read of a store over a store at a key: what the trait says of it where the store is seen as this state; if the store
+-- refuses the key by itself, it does so with this text. `given` is what an accepted read returns, and `causes` why another
+-- one may be refused.
+pub record ReadsOver {A : Type 0} (given : A) (causes : StorageError → Type 0) (is_own : Bool) (text : List ℕ) (result : Result A StorageError) : Type 0 where
+  pub value : IfOk result (λ read. read ≡ given)
+  pub refused : IfErr result causes
+  pub own : is_own ≡ true → IsErrAnd result (SaysOther text)
+
 -- ---- writing calls
 
 -- the ways in which a writing call ends: accepted, and refused
@@ -60,6 +70,14 @@ part_of_value = record { accepts = AcceptsPartial; refuses = RefusesPartial }
 -- a writing call that was passed on, and accepted or refused there
 abbrev pub PassedOn : {T E : Type 0} → Endings → Result T E → StoreState → StoreState → Values → Type 0
 PassedOn ends result old new written = MatchResult result (λ _. ends.accepts old new written) (λ _. ends.refuses old new)
+
+-- What the trait says of a writing call, where `state` is what the store is seen as, and `write` what the call makes of the
+-- values.
+pub record WritesBy {W : Type 0} (ends : Endings) (state : W → StoreState) (write : Values → Values) (old new : W)
+    (result : Result (Unit {0}) StorageError) : Type 0 where
+  pub ok : OnOk result (ends.accepts (state old) (state new) (write (state old).values))
+  pub refused : OnErr result (ends.refuses (state old) (state new))
+  pub exhausted : (state old).calls ≡ last_call → IsErrOf result Exhausted
 
 -- A writing call of a store over a store that counts its calls by itself: what the trait says; at the last call nothing
 -- is passed on; if it is the one to be refused it is refused with this text, and not passed on; else it is passed on. `write`
@@ -104,6 +122,10 @@ fault_is_next fault = nat_lt fault.counts.calls last_call && is_write_number fau
 abbrev pub fault_passes_on : {S : Type 0} → Fault S → Bool
 fault_passes_on fault = nat_lt fault.counts.calls last_call && not (is_write_number fault.refused_write (fault.counts.calls + 1))
 
+-- a read of a `Fault` at a key: what it gives, why else it is refused there
+abbrev pub FaultReads : {S A : Type 0} → Fault S → A → (List ℕ → StorageError → Type 0) → List ℕ → Result A StorageError → Type 0
+FaultReads fault given causes key = ReadsOver given (causes key) (is_listed (fault_keys fault) key) (codes "fault")
+
 -- a writing call of a `Fault`
 abbrev pub FaultWrites : {S : Type 0} → Endings → (S → StoreState) → (Values → Values) → Fault S → Fault S → Result (Unit {0}) StorageError → Type 0
 FaultWrites ends state write = WritesOver ends (fault_state state) below_fault state fault_is_next fault_passes_on (codes "fault") write
@@ -143,3 +165,8 @@ below_whole whole = whole.store
 
 abbrev pub whole_keys : {S : Type 0} → WholeRefused S → List (List ℕ)
 whole_keys whole = whole.keys.items
+
+-- a writing call of a `WholeRefused`, which is passed on
+abbrev pub WholeWrites : {S : Type 0} → Endings → (S → StoreState) → (Values → Values) → WholeRefused S → WholeRefused S
+    → Result (Unit {0}) StorageError → Type 0
+WholeWrites ends state write = WritesBy ends (whole_state state) write

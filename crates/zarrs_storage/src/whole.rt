@@ -1,11 +1,10 @@
 //! `WholeRefused`: a store that refuses to read whole values.
-ghost use Rattle.std.specs.Prelude.{◌≡◌, ◌+◌, ◌<◌, true, length, codes, IfOk, IfErr, OnOk, OnErr};
-ghost use Rattle.std.specs.Prelude.{IsErr, IsErrOf, IsErrAnd};
+ghost use Rattle.std.specs.Prelude.{◌≡◌, ◌+◌, ◌<◌, true, length, codes, IfOk, IfErr, IsErr};
 ghost use Rattle.std.specs.FinMap as map;
-ghost use Rattle.zarrs_storage.specs.Store.{Accepts, Refuses, AcceptsPartial, RefusesPartial};
 ghost use Rattle.zarrs_storage.specs.Store.{MayReadWhole, MayReadRange};
-ghost use Rattle.zarrs_storage.specs.Store.{PassesValue, is_listed, last_call, value_range, size_at, with_part};
-ghost use Rattle.zarrs_storage.specs.Refusals.{NamesKey, RefusesRead, RefusesRange, SaysOther};
+ghost use Rattle.zarrs_storage.specs.Store.{PassesValue, is_listed, value_range, size_at, with_part};
+ghost use Rattle.zarrs_storage.specs.Refusals.{NamesKey, RefusesRead, RefusesRange};
+ghost use Rattle.zarrs_storage.specs.Wrappers.{ReadsOver, WholeWrites, whole_value, part_of_value};
 ghost use Rattle.zarrs_storage.specs.Wrappers.{with_refused, whole_state, below_whole, whole_keys};
 
 use crate::error::StorageError;
@@ -45,13 +44,11 @@ impl<S: ReadableStorageTraits> ReadableStorageTraits for WholeRefused<S> {
     fn get(&self, alloc: Global, key: &StoreKey) -> Result<Option<Bytes>, StorageError>
         requires may_ask { (whole_state S.state self.now).may_ask key.now ≡ true }
         requires may_read { MayReadWhole (whole_state S.state self.now) key.now }
-        ensures value { IfOk result (λ value. value
-            ≡ map.get (whole_state S.state self.now).values key.now) }
+        ensures reads { let s = whole_state S.state self.now in
+            ReadsOver (map.get s.values key.now) (RefusesRead s key.now)
+            (is_listed (whole_keys self.now) key.now) (codes "get") result }
         ensures refusing { (whole_state S.state self.now).refuses key.now ≡ true → IsErr result }
-        ensures refused { IfErr result (RefusesRead (whole_state S.state self.now) key.now) }
         ensures named { IfErr result (NamesKey key.now) }
-        ensures whole { is_listed (whole_keys self.now) key.now ≡ true
-            → IsErrAnd result (SaysOther (codes "get")) }
     {
         if lists(&self.keys, key) {
             return Err(StorageError::other(alloc, "get"));
@@ -90,26 +87,16 @@ impl<S: ReadableStorageTraits> ReadableStorageTraits for WholeRefused<S> {
 
 impl<S: WritableStorageTraits> WritableStorageTraits for WholeRefused<S> {
     fn set(&mut self, alloc: Global, key: &StoreKey, value: Bytes) -> Result<(), StorageError>
-        ensures ok { let state = S.ReadableStorageTraits.state in
-            OnOk result (Accepts (whole_state state self.old) (whole_state state self.new)
-            (map.insert (whole_state state self.old).values key.now value)) }
-        ensures refused { let state = S.ReadableStorageTraits.state in
-            OnErr result (Refuses (whole_state state self.old) (whole_state state self.new)) }
-        ensures exhausted { (whole_state S.ReadableStorageTraits.state self.old).calls ≡ last_call
-            → IsErrOf result StorageError.Exhausted }
+        ensures writes { WholeWrites whole_value S.ReadableStorageTraits.state
+            (λ values. map.insert values key.now value) self.old self.new result }
         ensures rule { whole_keys self.new ≡ whole_keys self.old }
     {
         self.store.set(alloc, key, value)
     }
 
     fn erase(&mut self, alloc: Global, key: &StoreKey) -> Result<(), StorageError>
-        ensures ok { let state = S.ReadableStorageTraits.state in
-            OnOk result (Accepts (whole_state state self.old) (whole_state state self.new)
-            (map.remove (whole_state state self.old).values key.now)) }
-        ensures refused { let state = S.ReadableStorageTraits.state in
-            OnErr result (Refuses (whole_state state self.old) (whole_state state self.new)) }
-        ensures exhausted { (whole_state S.ReadableStorageTraits.state self.old).calls ≡ last_call
-            → IsErrOf result StorageError.Exhausted }
+        ensures writes { WholeWrites whole_value S.ReadableStorageTraits.state
+            (λ values. map.remove values key.now) self.old self.new result }
         ensures rule { whole_keys self.new ≡ whole_keys self.old }
     {
         self.store.erase(alloc, key)
@@ -122,13 +109,8 @@ impl<S: WritableStorageTraits> WritableStorageTraits for WholeRefused<S> {
         offset: u64,
         bytes: &[u8],
     ) -> Result<(), StorageError>
-        ensures ok { let state = S.ReadableStorageTraits.state in
-            OnOk result (AcceptsPartial (whole_state state self.old) (whole_state state self.new)
-            (with_part (whole_state state self.old).values key.now offset bytes.now)) }
-        ensures refused { let state = S.ReadableStorageTraits.state in
-            OnErr result (RefusesPartial (whole_state state self.old) (whole_state state self.new)) }
-        ensures exhausted { (whole_state S.ReadableStorageTraits.state self.old).calls ≡ last_call
-            → IsErrOf result StorageError.Exhausted }
+        ensures writes { WholeWrites part_of_value S.ReadableStorageTraits.state
+            (λ values. with_part values key.now offset bytes.now) self.old self.new result }
         ensures passing { usize.MAX < offset + length bytes.now → IsErr result }
         ensures rule { whole_keys self.new ≡ whole_keys self.old }
     {

@@ -40,14 +40,6 @@ EndsFit-below start extents l h k =
 EndsFit-inner : (s e : ℕ) (start extents : List ℕ) → EndsFit (s ∷ start) (e ∷ extents) → EndsFit start extents
 EndsFit-inner s e start extents h k = h (suc k)
 
-pub ends-cut : (start extents : List ℕ) → EndsFit start extents → zip_with (λ s t. min (s + t) (2 ^ 64 - 1)) start extents ≡ ends start extents
-ends-cut [] extents h = refl
-ends-cut (s ∷ start) [] h = refl
-ends-cut (s ∷ start) (e ∷ extents) h =
-    let fits : s + e < 2 ^ 64 = h zero in
-    let first : min (s + e) (2 ^ 64 - 1) ≡ s + e = omega arith in
-    rw (first, ends-cut start extents (EndsFit-inner s e start extents h)) refl
-
 -- ---- overlaps
 
 pub length-overlap_extents : (S X T Y : List ℕ) → length S ≡ length X → length T ≡ length Y → length S ≡ length T
@@ -164,29 +156,7 @@ EndsFit-bound (s ∷ S) (x ∷ X) (e ∷ E) h i f zero =
 EndsFit-bound (s ∷ S) (x ∷ X) (e ∷ E) h i f (suc k) =
     EndsFit-bound S X E (omega arith) (omega arith) (EndsFit-inner s x S X f) k
 
--- a position of a box fits u64
-pub offset_by-cut : (start extents q : List ℕ) → length start ≡ length extents → EndsFit start extents → InShape extents q
-    → zip_with (λ s t. min (s + t) (2 ^ 64 - 1)) start q ≡ offset_by start q
-offset_by-cut [] extents q l h i = refl
-offset_by-cut (s ∷ start) [] q l h i = absurd (omega arith)
-offset_by-cut (s ∷ start) (e ∷ extents) [] l h i = absurd i
-offset_by-cut (s ∷ start) (e ∷ extents) (j ∷ q) l h i =
-    let fits : s + e < 2 ^ 64 = h zero in
-    let inside : j < e = i.0 in
-    let first : min (s + j) (2 ^ 64 - 1) ≡ s + j = omega arith in
-    rw (first, offset_by-cut start extents q (omega arith) (EndsFit-inner s e start extents h) i.1) refl
-
 -- ---- a box with an offset added to its start
-
--- sums that fit are not cut
-pub sums-cut : (S O : List ℕ) → length S ≡ length O → ((k : ℕ) → k < length O → slice_index S k + slice_index O k < 2 ^ 64)
-    → zip_with (λ s t. min (s + t) (2 ^ 64 - 1)) S O ≡ zip_with (λ s t. s + t) S O
-sums-cut [] O l h = refl
-sums-cut (s ∷ S) [] l h = refl
-sums-cut (s ∷ S) (o ∷ O) l h =
-    let fits : s + o < 2 ^ 64 = h zero (omega arith) in
-    let first : min (s + o) (2 ^ 64 - 1) ≡ s + o = omega arith in
-    rw (first, sums-cut S O (omega arith) (λ k below. h (suc k) (omega arith))) refl
 
 pub EndsFit-shift : (S X O : List ℕ) → length S ≡ length X → length S ≡ length O
     → ((k : ℕ) → k < length O → slice_index S k + slice_index X k + slice_index O k < 2 ^ 64) → EndsFit (zip_with (λ s t. s + t) S O) X

@@ -1,9 +1,10 @@
 -- Boxes with an offset added to their start, and parts of chunks.
-use Rattle.std.proofs.Common.{◌≡◌, ℕ, zero, suc, ◌+◌, ◌<◌, ◌≤◌, ◌↔◌, List, [], ◌∷◌, length, slice_index, refl, ap, ◌∙◌, sym, arith}
+use Rattle.std.proofs.Common.{◌≡◌, ℕ, zero, suc, ◌+◌, ◌<◌, ◌≤◌, ◌^◌, ◌↔◌, List, [], ◌∷◌, length, slice_index, refl, ap, ◌∙◌, sym, arith}
 use Rattle.std.proofs.lemmas.Bool.Decides.{nat_tests}
-use Rattle.zarrs_subset.specs.Boxes.{in_range, is_within, zip_with, offset_by}
+use Rattle.zarrs_subset.specs.Boxes.{EndsFit, InShape, in_range, is_within, zip_with, offset_by}
 use Rattle.zarrs_subset.specs.Regions.{Box, IsLong, Holds, LiesInShape, shifted_box}
 use Rattle.zarrs_subset.proofs.Bytes.{holds_along, along_holds}
+use Rattle.zarrs_subset.proofs.Counts.{InShape-at}
 use Rattle.zarrs_subset.proofs.Overlaps.{length-zip_with}
 use Rattle.zarrs_subset.proofs.Parts.{zip_with-at}
 
@@ -42,3 +43,22 @@ part_in_chunk chunk part position long part_long lies holds =
       from = λ k below. omega (arith, inside.from k (omega arith), at k below);
       below = λ k below. omega (arith, inside.below k (omega arith), at k below, lies.ends k (omega (arith, long)));
     })
+
+-- ---- the position of a number
+
+-- an index below its extent, added to the start, fits u64
+pub index_fits : (start extents q : List ℕ) → length start ≡ length extents → EndsFit start extents → InShape extents q
+    → (k : ℕ) → k < length start → slice_index q k + slice_index start k < 2 ^ 64
+index_fits start extents q l h i k below =
+    let first : slice_index start k + slice_index extents k < 2 ^ 64 = h k in
+    let inside : slice_index q k < slice_index extents k = InShape-at extents q k i (omega arith) in
+    omega arith
+
+-- the sums of the indices and the start are the position that lies there
+pub offset_by-sums : (start q : List ℕ) → length q ≡ length start → zip_with (λ s t. s + t) q start ≡ offset_by start q
+offset_by-sums [] [] l = refl
+offset_by-sums [] (j ∷ q) l = absurd (omega arith)
+offset_by-sums (s ∷ start) [] l = refl
+offset_by-sums (s ∷ start) (j ∷ q) l =
+    let first : j + s ≡ s + j = omega arith in
+    rw (first, offset_by-sums start q (omega arith)) refl

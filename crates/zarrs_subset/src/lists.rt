@@ -1,8 +1,8 @@
 //! Lists of numbers of two arrays' coordinates, dimension by dimension.
 
-ghost use Rattle.std.specs.Prelude.{◌≡◌, ℕ, ◌+◌, ◌-◌, ◌^◌, ◌<◌, ◌≤◌, ◌↔◌, length, min};
+ghost use Rattle.std.specs.Prelude.{◌≡◌, ℕ, ◌+◌, ◌-◌, ◌^◌, ◌<◌, ◌≤◌, ◌↔◌, length};
 ghost use Rattle.std.specs.Prelude.{slice_index, IfOk, IsTrue, SomeIndex};
-ghost use Rattle.zarrs_subset.specs.Boxes.{zip_with, ends, EndsFit, without_ones};
+ghost use Rattle.zarrs_subset.specs.Boxes.{zip_with, without_ones};
 
 use crate::{ArrayIndices, ArrayShape};
 use std::alloc::{AllocError, Global};
@@ -12,45 +12,6 @@ pub(crate) fn has_zero(extents: &[u64]) -> bool
     ensures { IsTrue result ↔ SomeIndex extents.now (λ k. slice_index extents.now k ≡ 0) }
 {
     extents.iter().any(|extent| *extent == 0)
-}
-
-/// The lesser number of each dimension.
-pub(crate) fn earlier(alloc: Global, a: &[u64], b: &[u64]) -> Result<ArrayIndices, AllocError>
-    ensures { IfOk result (λ v. v.items ≡ zip_with (λ s t. min s t) a.now b.now) }
-{
-    a.iter().zip(b).map(|(x, y)| (*x).min(*y)).collect(alloc)
-}
-
-/// How far each number of `a` is above that of `b`, or 0.
-pub(crate) fn distances(alloc: Global, a: &[u64], b: &[u64]) -> Result<ArrayIndices, AllocError>
-    ensures { IfOk result (λ v. v.items ≡ zip_with (λ s t. s - t) a.now b.now) }
-{
-    a.iter()
-        .zip(b)
-        .map(|(x, y)| x.saturating_sub(*y))
-        .collect(alloc)
-}
-
-/// The sums, each cut to `u64`.
-pub(crate) fn sums(alloc: Global, a: &[u64], b: &[u64]) -> Result<ArrayIndices, AllocError>
-    ensures { IfOk result (λ v. v.items ≡ zip_with (λ s t. min (s + t) (2 ^ 64 - 1)) a.now b.now) }
-{
-    a.iter()
-        .zip(b)
-        .map(|(x, y)| x.saturating_add(*y))
-        .collect(alloc)
-}
-
-/// The end of each dimension of a box.
-pub(crate) fn ends_of(
-    alloc: Global,
-    start: &[u64],
-    shape: &[u64],
-) -> Result<ArrayIndices, AllocError>
-    requires { EndsFit start.now shape.now }
-    ensures { IfOk result (λ v. v.items ≡ ends start.now shape.now) }
-{
-    sums(alloc, start, shape)
 }
 
 /// How far each number of `end` is above that of `start`, which is nowhere above it.

@@ -1,6 +1,6 @@
 //! Positions and their row-major numbers.
 
-ghost use Rattle.std.specs.Prelude.{◌≡◌, ◌≤◌, ◌^◌, IfOk, MatchOption};
+ghost use Rattle.std.specs.Prelude.{◌≡◌, ◌<◌, ◌≤◌, ◌^◌, IfOk, MatchOption};
 ghost use Rattle.zarrs_subset.specs.Boxes.{position_count, InShape, place};
 
 use crate::ArrayIndices;
@@ -57,9 +57,24 @@ pub fn unravel_index(
     ensures { IfOk result (λ r. MatchOption r (position_count shape.now ≤ index)
         (λ p. InShape shape.now p.items × (place shape.now p.items ≡ index))) }
 {
-    if has_zero(shape) {
-        return Ok(None);
+    match element_count(shape) {
+        Some(count) if index >= count => Ok(None),
+        _ => Ok(Some(unravelled(alloc, index, shape)?)),
     }
+}
+
+/// The position of that row-major number of an array of this shape, which has it.
+///
+/// # Errors
+/// `AllocError`: out of memory.
+pub(crate) fn unravelled(
+    alloc: Global,
+    index: u64,
+    shape: &[u64],
+) -> Result<ArrayIndices, AllocError>
+    requires { index < position_count shape.now }
+    ensures { IfOk result (λ p. InShape shape.now p.items × (place shape.now p.items ≡ index)) }
+{
     let mut indices = vec![in alloc; 0u64; shape.len()]?;
     let mut rest = index;
     let mut axis = shape.len();
@@ -68,5 +83,5 @@ pub fn unravel_index(
         indices[axis] = rest % shape[axis];
         rest /= shape[axis];
     }
-    Ok((rest == 0).then_some(indices))
+    Ok(indices)
 }

@@ -9,8 +9,8 @@ ghost use Rattle.zarrs_subset.specs.Refusals.{IsMismatch, RefusesStartShape, Ref
 ghost use Rattle.zarrs_subset.specs.Refusals.{RefusesLength, RefusesOffset, RefusesShift};
 
 use crate::error::{ArraySubsetError, IncompatibleDimensionalityError, SizeOverflow};
-use crate::lists::{distances, earlier, ends_of, extents, has_zero, shifted, sums};
-use crate::ravel::{element_count, unravel_index};
+use crate::lists::{extents, has_zero, shifted};
+use crate::ravel::{element_count, unravelled};
 use crate::traits::ArraySubsetTraits;
 use crate::{ArrayIndices, ArrayShape};
 use std::alloc::{AllocError, Global};
@@ -121,12 +121,7 @@ impl ArraySubset {
     pub fn new_with_ranges(alloc: Global, ranges: &[Range<u64>]) -> Result<Self, AllocError>
         ensures { IfOk result (λ b. box_of b ≡ box_of_ranges ranges.now) }
     {
-        let start = ranges.iter().map(|range| range.start).collect(alloc)?;
-        let shape = ranges
-            .iter()
-            .map(|range| range.end.saturating_sub(range.start))
-            .collect(alloc)?;
-        Ok(ArraySubset { start, shape })
+        ranges.to_array_subset(alloc)
     }
 
     /// The number of dimensions.
@@ -173,7 +168,8 @@ impl ArraySubset {
         ensures { IfOk result (λ end. end.items ≡ ends (box_of self.now).start
             (box_of self.now).shape) }
     {
-        ends_of(alloc, &self.start, &self.shape)
+        let start = Vec::from_slice(alloc, &self.start)?;
+        Ok(shifted(start, &self.shape))
     }
 
     /// The number of positions: the product of the extents.
@@ -203,10 +199,10 @@ impl ArraySubset {
         ensures { IfOk result (λ r. MatchOption r (position_count (box_of self.now).shape ≤ number)
             (λ p. slice_get (positions (box_of self.now)) number ≡ Some p.items)) }
     {
-        let Some(offset) = unravel_index(alloc, number, &self.shape)? else {
-            return Ok(None);
-        };
-        Ok(Some(sums(alloc, &self.start, &offset)?))
+        match self.num_elements() {
+            Ok(count) if number >= count => Ok(None),
+            _ => Ok(Some(self.nth_position(alloc, number)?)),
+        }
     }
 
     /// The position of that number in row-major order.
@@ -217,10 +213,8 @@ impl ArraySubset {
         requires { number < position_count (box_of self.now).shape }
         ensures { IfOk result (λ p. slice_get (positions (box_of self.now)) number ≡ Some p.items) }
     {
-        match self.position(alloc, number)? {
-            Some(position) => Ok(position),
-            None => unreachable!(),
-        }
+        let offset = unravelled(alloc, number, &self.shape)?;
+        Ok(shifted(offset, &self.start))
     }
 
     /// The box of the positions that both boxes have. If they do not meet in a dimension, its extent is 0.
@@ -242,6 +236,25 @@ impl ArraySubset {
             (RefusesLength (length (B.region other.now).start) (length (box_of self.now).start)) }
     {
         self.check_length(other.dimensionality())?;
+        Ok(self.shared_with(alloc, other)?)
+    }
+
+    /// The box of the positions that both boxes have, which have as many dimensions. If they do not meet in one, its
+    /// extent is 0.
+    ///
+    /// # Errors
+    /// `AllocError`: out of memory.
+    pub fn shared_with<B: ArraySubsetTraits>(
+        &self,
+        alloc: Global,
+        other: &B,
+    ) -> Result<ArraySubset, AllocError>
+        requires { length (B.region other.now).start ≡ length (box_of self.now).start }
+        ensures common { IfOk result (λ b. (position : List ℕ) → in_box (box_of b) position
+            ≡ (in_box (box_of self.now) position && in_box (B.region other.now) position)) }
+        ensures value { IfOk result (λ b. box_of b ≡ overlap_of (box_of self.now)
+            (B.region other.now)) }
+    {
         let dimensions = self.start.len();
         let mut start = Vec::with_capacity(alloc, dimensions)?;
         let mut shape = Vec::with_capacity(alloc, dimensions)?;
@@ -277,10 +290,25 @@ impl ArraySubset {
                 return Err(ArraySubsetError::StartBelowOffset);
             }
         }
-        let copy = Vec::from_slice(alloc, &self.start)?;
-        let start = extents(copy, offset);
+        Ok(self.seen_from(alloc, offset)?)
+    }
+
+    /// The box as it is seen from a corner, which lies nowhere above its start.
+    ///
+    /// # Errors
+    /// `AllocError`: out of memory.
+    pub fn seen_from(&self, alloc: Global, corner: &[u64]) -> Result<ArraySubset, AllocError>
+        requires dimensions { length corner.now ≡ length (box_of self.now).start }
+        requires above { (k : ℕ) → k < length corner.now
+            → slice_index corner.now k ≤ slice_index (box_of self.now).start k }
+        ensures { IfOk result (λ b. box_of b ≡ seen_from (box_of self.now) corner.now) }
+    {
+        let start = Vec::from_slice(alloc, &self.start)?;
         let shape = Vec::from_slice(alloc, &self.shape)?;
-        Ok(ArraySubset { start, shape })
+        Ok(ArraySubset {
+            start: extents(start, corner),
+            shape,
+        })
     }
 
     /// The box with `offset` added to its start: the same positions, seen from a corner that lies `offset` before.
@@ -300,10 +328,25 @@ impl ArraySubset {
                 return Err(ArraySubsetError::EndOverflow);
             }
         }
-        let copy = Vec::from_slice(alloc, &self.start)?;
-        let start = shifted(copy, offset);
+        Ok(self.shifted(alloc, offset)?)
+    }
+
+    /// The box with `offset` added to its start, where each end fits `u64`.
+    ///
+    /// # Errors
+    /// `AllocError`: out of memory.
+    pub fn shifted(&self, alloc: Global, offset: &[u64]) -> Result<ArraySubset, AllocError>
+        requires dimensions { length offset.now ≡ length (box_of self.now).start }
+        requires ends { (k : ℕ) → k < length offset.now → slice_index (box_of self.now).start k
+            + slice_index (box_of self.now).shape k + slice_index offset.now k < 2 ^ 64 }
+        ensures { IfOk result (λ b. box_of b ≡ shifted_box (box_of self.now) offset.now) }
+    {
+        let start = Vec::from_slice(alloc, &self.start)?;
         let shape = Vec::from_slice(alloc, &self.shape)?;
-        Ok(ArraySubset { start, shape })
+        Ok(ArraySubset {
+            start: shifted(start, offset),
+            shape,
+        })
     }
 
     /// The box with its start and its end cut to `end`.
@@ -317,10 +360,15 @@ impl ArraySubset {
             (RefusesLength (length end.now) (length (box_of self.now).start)) }
     {
         self.check_length(end.len())?;
-        let own_end = self.end_exc(alloc)?;
-        let start = earlier(alloc, &self.start, end)?;
-        let cut_end = earlier(alloc, &own_end, end)?;
-        let shape = distances(alloc, &cut_end, &start)?;
+        let dimensions = self.start.len();
+        let mut start = Vec::with_capacity(alloc, dimensions)?;
+        let mut shape = Vec::with_capacity(alloc, dimensions)?;
+        for k in 0..dimensions {
+            let first = self.start[k].min(end[k]);
+            let last = (self.start[k] + self.shape[k]).min(end[k]);
+            start.push_reserved(first);
+            shape.push_reserved(last.saturating_sub(first));
+        }
         Ok(ArraySubset { start, shape })
     }
 

@@ -1,6 +1,6 @@
 //! The cells of one size at the places of the flags that are set.
-ghost use Rattle.std.specs.Prelude.{◌≡◌, ◌<◌, ◌+◌, ◌*◌, ℕ, All, EachIndex, IfOk, length, slice_index, slice_range};
-ghost use Rattle.zarrs_data_type_bytes.specs.Present.{places_set};
+ghost use Rattle.std.specs.Prelude.{◌≡◌, ◌<◌, ◌*◌, All, IfOk, length};
+ghost use Rattle.zarrs_data_type_bytes.specs.Present.{ArePlacesSet, TakesSet};
 
 use super::select::select_fixed;
 use super::spread::push_cell;
@@ -8,7 +8,7 @@ use std::alloc::{AllocError, Global};
 
 /// The places of the flags that are set.
 pub(super) fn places_set(alloc: Global, mask: &[u8]) -> Result<Vec<usize>, AllocError>
-    ensures places { IfOk result (λ places. places.items ≡ places_set mask.now (length mask.now)) }
+    ensures places { IfOk result (λ places. ArePlacesSet mask.now places.items) }
     ensures within { IfOk result (λ places. All (λ p. p < length mask.now) places.items) }
 {
     let mut places = Vec::with_capacity(alloc, mask.len())?;
@@ -29,12 +29,7 @@ fn gather_sized<const N: usize>(
     requires wide { 0 < N }
     requires small { N < 9 }
     requires cells { length bytes.now ≡ length mask.now * N }
-    ensures len { IfOk result (λ made. length made.items
-        ≡ length (places_set mask.now (length mask.now)) * N) }
-    ensures cells { IfOk result (λ made. EachIndex (places_set mask.now (length mask.now)) (λ k.
-        slice_range made.items (k * N) (k * N + N)
-        ≡ slice_range bytes.now (slice_index (places_set mask.now (length mask.now)) k * N)
-        (slice_index (places_set mask.now (length mask.now)) k * N + N))) }
+    ensures { IfOk result (λ made. TakesSet N mask.now bytes.now made.items) }
 {
     let (cells, _) = bytes.as_chunks::<N>();
     let mut made = Vec::with_capacity(alloc, bytes.len())?;
@@ -54,12 +49,7 @@ pub(super) fn gather_fixed(
     mask: &[u8],
 ) -> Result<Vec<u8>, AllocError>
     requires { length cells.now ≡ length mask.now * size }
-    ensures len { IfOk result (λ made. length made.items
-        ≡ length (places_set mask.now (length mask.now)) * size) }
-    ensures cells { IfOk result (λ made. EachIndex (places_set mask.now (length mask.now)) (λ k.
-        slice_range made.items (k * size) (k * size + size)
-        ≡ slice_range cells.now (slice_index (places_set mask.now (length mask.now)) k * size)
-        (slice_index (places_set mask.now (length mask.now)) k * size + size))) }
+    ensures { IfOk result (λ made. TakesSet size mask.now cells.now made.items) }
 {
     match size {
         1 => gather_sized::<1>(alloc, cells, mask),

@@ -76,7 +76,7 @@ impl ArrayBytes<'static> {
                     unreachable!()
                 };
                 let ArrayBytesOptional { data, mask } = optional;
-                let mask = mask.with_part(alloc, held_box, &given.mask, part_box)?;
+                let mask = mask.with_part(alloc, held_box, given.mask(), part_box)?;
                 let data = Box::into_inner(data).put_part(
                     alloc,
                     inner,

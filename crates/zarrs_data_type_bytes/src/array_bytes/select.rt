@@ -1,8 +1,8 @@
 //! The cells at given places.
-ghost use Rattle.std.specs.Prelude.{◌≡◌, ◌<◌, ◌+◌, ◌*◌, ℕ, [], All, EachIndex, IfOk, map, length};
-ghost use Rattle.std.specs.Prelude.{slice_index, slice_index_or, slice_range};
+ghost use Rattle.std.specs.Prelude.{◌≡◌, ◌<◌, ◌*◌, ℕ, [], All, IfOk, map, length, slice_index, slice_index_or};
 ghost use Rattle.zarrs_data_type_bytes.specs.ArrayData.{data_of};
 ghost use Rattle.zarrs_data_type_bytes.specs.Cells.{CanSelect, IsSelection};
+ghost use Rattle.zarrs_data_type_bytes.specs.Present.{TakesPieces};
 ghost use Rattle.zarrs_data_type_kinds.specs.Kind.{kind};
 
 use super::ArrayBytes;
@@ -20,11 +20,7 @@ pub(super) fn select_fixed(
     places: &[usize],
 ) -> Result<Vec<u8>, AllocError>
     requires { (n : ℕ) × (length bytes.now ≡ n * size) × All (λ p. p < n) places.now }
-    ensures len { IfOk result (λ selected. length selected.items ≡ length places.now * size) }
-    ensures cells { IfOk result (λ selected. EachIndex places.now (λ k.
-        slice_range selected.items (k * size) (k * size + size)
-        ≡ slice_range bytes.now (slice_index places.now k * size)
-        (slice_index places.now k * size + size))) }
+    ensures { IfOk result (λ selected. TakesPieces size places.now bytes.now selected.items) }
 {
     let mut selected = Vec::with_capacity(alloc, places.len().saturating_mul(size))?;
     for place in places {

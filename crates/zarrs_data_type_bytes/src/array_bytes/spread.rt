@@ -1,9 +1,9 @@
 //! The present cells of optional data at the places of the flags that are set.
-ghost use Rattle.std.specs.Prelude.{◌≡◌, ◌<◌, ◌≤◌, ◌+◌, ◌*◌, ◌^◌, ◌++◌, ℕ, true, EachIndex, IfOk, IsTrue};
-ghost use Rattle.std.specs.Prelude.{count_by, length, slice_index, slice_range, vec_capacity, vec_len};
+ghost use Rattle.std.specs.Prelude.{◌≡◌, ◌<◌, ◌≤◌, ◌+◌, ◌*◌, ◌^◌, ◌++◌, ℕ, true, IfOk, IsTrue};
+ghost use Rattle.std.specs.Prelude.{count_by, length, vec_capacity, vec_len};
 ghost use Rattle.zarrs_data_type_bytes.specs.ArrayData.{data_of};
 ghost use Rattle.zarrs_data_type_bytes.specs.Cells.{fits, HasCells, IsSelection};
-ghost use Rattle.zarrs_data_type_bytes.specs.Present.{flag_set, ranks_set};
+ghost use Rattle.zarrs_data_type_bytes.specs.Present.{TakesPieces, flag_set, ranks_set};
 ghost use Rattle.zarrs_data_type_kinds.specs.Kind.{kind, cell_size};
 
 use super::ArrayBytes;
@@ -53,11 +53,8 @@ fn spread_sized<const N: usize>(
     requires some { 0 < count_by flag_set mask.now }
     requires cells { length bytes.now ≡ count_by flag_set mask.now * N }
     requires size { length mask.now * N < 2 ^ 64 }
-    ensures len { IfOk result (λ spread. length spread.items ≡ length mask.now * N) }
-    ensures cells { IfOk result (λ spread. EachIndex (ranks_set mask.now (length mask.now)) (λ k.
-        slice_range spread.items (k * N) (k * N + N)
-        ≡ slice_range bytes.now (slice_index (ranks_set mask.now (length mask.now)) k * N)
-        (slice_index (ranks_set mask.now (length mask.now)) k * N + N))) }
+    ensures { IfOk result (λ spread. TakesPieces N (ranks_set mask.now (length mask.now)) bytes.now
+        spread.items) }
 {
     let (cells, _) = bytes.as_chunks::<N>();
     let mut spread = Vec::with_capacity(alloc, mask.len() * N)?;
@@ -84,11 +81,8 @@ fn spread_fixed(
     requires some { 0 < count_by flag_set mask.now }
     requires cells { length cells.now ≡ count_by flag_set mask.now * size }
     requires size { length mask.now * size < 2 ^ 64 }
-    ensures len { IfOk result (λ spread. length spread.items ≡ length mask.now * size) }
-    ensures cells { IfOk result (λ spread. EachIndex (ranks_set mask.now (length mask.now)) (λ k.
-        slice_range spread.items (k * size) (k * size + size)
-        ≡ slice_range cells.now (slice_index (ranks_set mask.now (length mask.now)) k * size)
-        (slice_index (ranks_set mask.now (length mask.now)) k * size + size))) }
+    ensures { IfOk result (λ spread. TakesPieces size (ranks_set mask.now (length mask.now)) cells.now
+        spread.items) }
 {
     match size {
         1 => spread_sized::<1>(alloc, cells, mask),

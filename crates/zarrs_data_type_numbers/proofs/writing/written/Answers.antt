@@ -23,4 +23,5 @@ loop-left-preserved g c =
           ∙ c.loop-left.invariant.items;
       len = omega (arith, c.in_ok-extend_written.ensures.len, c.loop-left.invariant.len, cut);
       room = search rules;
+      left = omega arith;
     }

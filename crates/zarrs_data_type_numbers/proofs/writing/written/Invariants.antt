@@ -1,4 +1,4 @@
-use Rattle.std.proofs.Common.{◌≡◌, ◌+◌, ◌*◌, ◌++◌, length}
+use Rattle.std.proofs.Common.{◌≡◌, ◌+◌, ◌*◌, ◌++◌, ◌≤◌, length}
 use Rattle.std.specs.Prelude.{vec_capacity}
 use Rattle.std.specs.List.{flat_map}
 use Rattle.zarrs_data_type_numbers.proofs.writing.written.Given as goal
@@ -8,7 +8,8 @@ invariant-loop-left g l = record {
   items : l.made.items ++ flat_map g.W.Writing.written l.left
       ≡ flat_map g.W.Writing.written l.fn.values;
   len : length l.made.items + length l.left * g.row.N ≡ length l.fn.values * g.row.N;
-  room : vec_capacity l.block ≡ 1024;
+  room : vec_capacity l.block ≡ l.room;
+  left : length l.left ≤ length l.fn.values;
 }
 
 abbrev pub decreases-loop-left : goal.decreases-loop-left

@@ -13,13 +13,10 @@ loop-index-preserved c =
     let below : i < length strings = omega (arith, c.loop-index-test.true, c.len-count.ensures) in
     let next = next_cut cuts strings i (c.as_slice-cuts.ensures.offsets ∙ c.offsets.ensures) below in
     let one : slice_index cuts (i + 1) - slice_index cuts i ≡ length (slice_index_or strings i []) = omega arith in
-    record {
-      lens = c.push_reserved.ensures.items
-          ∙ ap (λ l. l ++ (slice_index cuts (i + 1) - slice_index cuts i) ∷ []) c.loop-index.invariant.lens
-          ∙ ap (λ n. map length (take i strings) ++ n ∷ []) one
-          ∙ sym (map_more length strings i [] below);
-      room = c.push_reserved.ensures.capacity ∙ c.loop-index.invariant.room;
-    }
+    c.in_ok-push.ensures
+    ∙ ap (λ l. l ++ (slice_index cuts (i + 1) - slice_index cuts i) ∷ []) c.loop-index.invariant
+    ∙ ap (λ n. map length (take i strings) ++ n ∷ []) one
+    ∙ sym (map_more length strings i [] below)
 
 pub bounds-cuts-index : goal.bounds-cuts-index
 bounds-cuts-index c =
@@ -37,3 +34,13 @@ overflow_sub-cuts c =
     let below : c.loop-index.index < length strings = omega (arith, c.loop-index-test.true, c.len-count.ensures) in
     let next = next_cut c.as_slice-cuts.result.now strings c.loop-index.index (c.as_slice-cuts.ensures.offsets ∙ c.offsets.ensures) below in
     omega arith
+
+pub offset_bounds-cuts-index : goal.offset_bounds-cuts-index
+offset_bounds-cuts-index c =
+    let all = ap (λ (xs : List ℕ). length xs) (c.as_slice-cuts.ensures.offsets ∙ c.offsets.ensures) in
+    omega (arith, all, length-cuts c.args.strings.now, c.loop-index-test.true, c.len-count.ensures, c.as_slice-cuts.type_inv.0)
+
+pub offset_bounds-cuts-index-in-loop-index : goal.offset_bounds-cuts-index-in-loop-index
+offset_bounds-cuts-index-in-loop-index c =
+    let all = ap (λ (xs : List ℕ). length xs) (c.as_slice-cuts.ensures.offsets ∙ c.offsets.ensures) in
+    omega (arith, all, length-cuts c.args.strings.now, c.loop-index-test.true, c.len-count.ensures, c.as_slice-cuts.type_inv.0)

@@ -1,32 +1,19 @@
-use Rattle.std.proofs.Common.{length, refl, ap, ◌∙◌, arith}
-use Rattle.std.specs.Int.NonZero.{non_zero_u64_get}
-use Rattle.std.proofs.lemmas.List.{length-map}
+use Rattle.std.proofs.Common.{refl, ap, arith}
 use Rattle.zarrs_chunk_grid.specs.Axes.{sizes_of}
 use Rattle.zarrs_chunk_grid.specs.Configurations.{regular}
-use Rattle.zarrs_chunk_grid.proofs.ConfigurationLemmas.{taken_from}
-use Rattle.zarrs_chunk_grid.proofs.RegularLemmas.{chunk_counts_long, counts_read}
+use Rattle.zarrs_chunk_grid.proofs.ConfigurationLemmas.{regular_made, counts_made, taken_alike}
 use Rattle.zarrs_chunk_grid.proofs.regular.RegularChunkGrid.new.Goals as goal
 
-pub invariant_of-result-clause-grid_dimensions : goal.invariant_of-result-clause-grid_dimensions
-invariant_of-result-clause-grid_dimensions c =
-    let same = c.in_ok-check_length.ensures.ok in
-    let counts = rw (c.deref.ensures.value, c.deref-2.ensures.value) at c.in_ok-grid_shape.ensures in
-    let read = counts_read c.args.array_shape.items c.args.chunk_shape.items in
-    ap length (counts ∙ read) ∙ chunk_counts_long c.args.array_shape.items (sizes_of c.args.chunk_shape.items)
-    (omega (arith, length-map c.args.chunk_shape.items non_zero_u64_get))
+pub returns-clause-configuration : goal.returns-clause-configuration
+returns-clause-configuration c = ap (λ xs. regular (sizes_of xs)) c.in_ok-grid.ensures.chunks
 
-pub invariant_of-result-clause-counted : goal.invariant_of-result-clause-counted
-invariant_of-result-clause-counted c =
-    let counts = rw (c.deref.ensures.value, c.deref-2.ensures.value) at c.in_ok-grid_shape.ensures in
-    counts ∙ counts_read c.args.array_shape.items c.args.chunk_shape.items
+pub returns-clause-grid : goal.returns-clause-grid
+returns-clause-grid c = regular_made _ _ _ _ c.in_ok-grid.ensures.chunks c.in_ok-grid.ensures.shape
 
 pub returns-clause-counts : goal.returns-clause-counts
-returns-clause-counts c =
-    let counts = rw (c.deref.ensures.value, c.deref-2.ensures.value) at c.in_ok-grid_shape.ensures in
-    counts ∙ counts_read c.args.array_shape.items c.args.chunk_shape.items
+returns-clause-counts c = counts_made _ _ _ _ _ c.in_ok-grid.grid.counted c.in_ok-grid.ensures.chunks c.in_ok-grid.ensures.shape
 
 pub returns-clause-taken : goal.returns-clause-taken
 returns-clause-taken c =
     let same = c.in_ok-check_length.ensures.ok in
-    taken_from (regular (sizes_of c.args.chunk_shape.items)) c.args.array_shape.items
-    (omega (arith, length-map c.args.chunk_shape.items non_zero_u64_get)) refl
+    taken_alike regular c.args.chunk_shape.items c.args.array_shape.items refl refl (omega arith)

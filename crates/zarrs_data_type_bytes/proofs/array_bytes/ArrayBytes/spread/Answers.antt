@@ -6,6 +6,7 @@ use Rattle.zarrs_data_type_kinds.proofs.Sizes.{cell_size-element}
 use Rattle.zarrs_data_type_bytes.specs.ArrayData.{data_of, fixed}
 use Rattle.zarrs_data_type_bytes.specs.Cells.{fits, HasCells, IsSelection}
 use Rattle.zarrs_data_type_bytes.specs.Present.{flag_set, ranks_set}
+use Rattle.zarrs_data_type_bytes.proofs.Cells.{fitting-fixed}
 use Rattle.zarrs_data_type_bytes.proofs.Fixed.{length-fixed}
 use Rattle.zarrs_data_type_bytes.proofs.Presence.{not_both, length-ranks}
 use Rattle.zarrs_data_type_bytes.proofs.Spread.{IsSelection-fixed, CanSelect-ranks}
@@ -31,6 +32,13 @@ spread_fixed-requires-clause-size c =
     let size : element_size k ≡ Some c.in-Some.size = sym c.element_size.ensures ∙ c.in-Some.is in
     subst (λ n. length c.args.mask.now * n < 2 ^ 64) (cell_size-element k c.in-Some.size size) c.requires.size
 
+pub returns-in-Fixed-clause-kind : goal.returns-in-Fixed-clause-kind
+returns-in-Fixed-clause-kind c =
+    let k = kind c.args.data_type.now in
+    let mask = c.args.mask.now in
+    let size : element_size k ≡ Some c.in-Some.size = sym c.element_size.ensures ∙ c.in-Some.is in
+    fitting-fixed k c.in-Some.size c.in_ok-spread.spread.items (length mask) size (c.in_ok-spread.ensures.len ∙ ap (λ m. m * c.in-Some.size) (length-ranks mask))
+
 pub returns-in-Fixed-clause-cells : goal.returns-in-Fixed-clause-cells
 returns-in-Fixed-clause-cells c = λ n fit some_there.
     let k = kind c.args.data_type.now in
@@ -39,8 +47,7 @@ returns-in-Fixed-clause-cells c = λ n fit some_there.
     let items = c.in_ok-spread.spread.items in
     let size : element_size k ≡ Some c.in-Some.size = sym c.element_size.ensures ∙ c.in-Some.is in
     let same : data_of c.args.self.now ≡ fixed c.as_slice.result.now = ap data_of c.in-Fixed.is ∙ ap fixed (sym c.as_slice.ensures.value) in
-    let len : length items ≡ length ranks * c.in-Some.size = c.in_ok-spread.ensures.len ∙ ap (λ m. m * c.in-Some.size) (sym (length-ranks mask)) in
-    subst (λ d. IsSelection k (fixed items) d ranks) (sym same) (IsSelection-fixed k c.in-Some.size c.as_slice.result.now items ranks size len c.in_ok-spread.ensures.cells)
+    subst (λ d. IsSelection k (fixed items) d ranks) (sym same) (IsSelection-fixed k c.in-Some.size c.as_slice.result.now items ranks size c.in_ok-spread.ensures)
 
 pub select-requires : goal.select-requires
 select-requires c =

@@ -4,7 +4,7 @@ use Rattle.std.specs.List.{flat_map}
 use Rattle.std.proofs.Math.Nat.{mul-div_cancel}
 use Rattle.std.proofs.lemmas.List.{get_or_default}
 use Rattle.zarrs_subset.proofs.Kernel.{cell_ends}
-use Rattle.zarrs_data_type_bytes.specs.Present.{places_set}
+use Rattle.zarrs_data_type_bytes.proofs.Places.{are_places, places_set}
 use Rattle.zarrs_data_type_bytes.proofs.Gathering.{gathered_is, gathered_more}
 use Rattle.zarrs_data_type_bytes.proofs.Presence.{places-unset}
 use Rattle.zarrs_data_type_bytes.proofs.array_bytes.gather.gather_sized.Goals as goal
@@ -35,18 +35,10 @@ loop-index-preserved g c =
           }
     ]
 
-pub returns-clause-len : goal.returns-clause-len
-returns-clause-len g c =
+pub returns : goal.returns
+returns g c =
     let mask = c.args.mask.now in
     let cells = c.as_chunks.result.0.now in
     let done : c.loop-index.index ≡ length mask = omega arith in
     let all = c.loop-index.invariant.cells ∙ ap (λ n. flat_map (λ x. x) (map (λ p. get_or cells p []) (places_set mask n))) done in
-    (gathered_is c.args.bytes.now mask c.loop-index.made.items g.row.N cells c.requires.wide c.requires.cells c.as_chunks.ensures.front all).0
-
-pub returns-clause-cells : goal.returns-clause-cells
-returns-clause-cells g c =
-    let mask = c.args.mask.now in
-    let cells = c.as_chunks.result.0.now in
-    let done : c.loop-index.index ≡ length mask = omega arith in
-    let all = c.loop-index.invariant.cells ∙ ap (λ n. flat_map (λ x. x) (map (λ p. get_or cells p []) (places_set mask n))) done in
-    (gathered_is c.args.bytes.now mask c.loop-index.made.items g.row.N cells c.requires.wide c.requires.cells c.as_chunks.ensures.front all).1
+    (places_set mask (length mask), are_places mask, gathered_is c.args.bytes.now mask c.loop-index.made.items g.row.N cells c.requires.wide c.requires.cells c.as_chunks.ensures.front all)

@@ -1,7 +1,7 @@
 use Rattle.std.proofs.Common.{◌≡◌, ◌*◌, ◌≤◌, length, map, get_or, []}
 use Rattle.std.specs.Prelude.{vec_capacity, vec_len}
 use Rattle.std.specs.List.{flat_map}
-use Rattle.zarrs_data_type_bytes.specs.Present.{places_set}
+use Rattle.zarrs_data_type_bytes.proofs.Places.{places_set}
 use Rattle.zarrs_data_type_bytes.proofs.array_bytes.gather.gather_sized.Given as goal
 
 abbrev pub invariant-loop-index : goal.invariant-loop-index

@@ -1,6 +1,8 @@
-use Rattle.std.proofs.Common.{ap, sym, ◌∙◌, ◌<◌, ◌++◌, ◌∷◌, [], subst}
+use Rattle.std.proofs.Common.{◌≡◌, arith, ap, sym, ◌∙◌, ◌<◌, ◌++◌, ◌∷◌, [], subst}
 use Rattle.std.specs.Prelude.{All}
 use Rattle.std.proofs.Common.{length}
+use Rattle.zarrs_data_type_bytes.specs.Present.{ArePlacesSet}
+use Rattle.zarrs_data_type_bytes.proofs.Places.{are_places, places_set}
 use Rattle.zarrs_data_type_bytes.proofs.Presence.{places-set, places-unset, All-pushed}
 use Rattle.zarrs_data_type_bytes.proofs.array_bytes.gather.places_set.Goals as goal
 use Rattle.zarrs_data_type_bytes.proofs.array_bytes.gather.places_set.Goals.{then-mask-index-ne0+in_ok-push, else-mask-index-ne0}
@@ -23,3 +25,9 @@ loop-index-preserved c =
             within = subst (λ l. All (λ p. p < length mask) l) (sym same) c.loop-index.invariant.within;
           }
     ]
+
+pub returns-clause-places : goal.returns-clause-places
+returns-clause-places c =
+    let mask = c.args.mask.now in
+    let done : c.loop-index.index ≡ length mask = omega arith in
+    subst (λ places. ArePlacesSet mask places) (sym (c.loop-index.invariant.places ∙ ap (places_set mask) done)) (are_places mask)

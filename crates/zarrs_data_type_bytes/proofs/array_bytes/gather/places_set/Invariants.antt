@@ -1,6 +1,6 @@
 use Rattle.std.proofs.Common.{◌≡◌, ◌<◌, length}
 use Rattle.std.specs.Prelude.{All}
-use Rattle.zarrs_data_type_bytes.specs.Present.{places_set}
+use Rattle.zarrs_data_type_bytes.proofs.Places.{places_set}
 use Rattle.zarrs_data_type_bytes.proofs.array_bytes.gather.places_set.Given as goal
 
 abbrev pub invariant-loop-index : goal.invariant-loop-index

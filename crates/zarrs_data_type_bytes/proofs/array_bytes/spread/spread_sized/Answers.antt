@@ -58,18 +58,10 @@ push_cell-requires g c =
     let ends = cell_ends g.row.N n (length mask) (length mask * g.row.N) c.loop-index-test.true refl in
     omega (arith, c.loop-index.invariant.len, c.loop-index.invariant.room, ends)
 
-pub returns-clause-len : goal.returns-clause-len
-returns-clause-len g c =
+pub returns : goal.returns
+returns g c =
     let mask = c.args.mask.now in
     let cells = c.as_chunks.result.0.now in
     let done : c.loop-index.index ≡ length mask = omega arith in
     let all = c.loop-index.invariant.cells ∙ ap (λ n. flat_map (λ x. x) (map (λ r. get_or cells r []) (ranks_set mask n))) done in
-    (spread_is c.args.bytes.now mask c.loop-index.spread.items g.row.N cells c.requires.wide c.requires.some c.requires.cells c.as_chunks.ensures.front all).0
-
-pub returns-clause-cells : goal.returns-clause-cells
-returns-clause-cells g c =
-    let mask = c.args.mask.now in
-    let cells = c.as_chunks.result.0.now in
-    let done : c.loop-index.index ≡ length mask = omega arith in
-    let all = c.loop-index.invariant.cells ∙ ap (λ n. flat_map (λ x. x) (map (λ r. get_or cells r []) (ranks_set mask n))) done in
-    (spread_is c.args.bytes.now mask c.loop-index.spread.items g.row.N cells c.requires.wide c.requires.some c.requires.cells c.as_chunks.ensures.front all).1
+    spread_is c.args.bytes.now mask c.loop-index.spread.items g.row.N cells c.requires.wide c.requires.some c.requires.cells c.as_chunks.ensures.front all

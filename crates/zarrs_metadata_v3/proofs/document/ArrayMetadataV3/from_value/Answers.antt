@@ -5,7 +5,7 @@ use Rattle.zarrs_metadata_v3.specs.View.{document_view}
 use Rattle.zarrs_metadata_v3.proofs.NormalLaws.{read_document_normal}
 use Rattle.zarrs_metadata_v3.proofs.document.ArrayMetadataV3.from_value.Goals as goal
 
-pub returns-in-Ok-Some-clause-normal : goal.returns-in-Ok-Some-clause-normal
-returns-in-Ok-Some-clause-normal c =
-    let read : document_of (view c.args.value) ≡ Some (document_view c.in-Ok-Some.document) = search rules in
-    read_document_normal (view c.args.value) (document_view c.in-Ok-Some.document) read
+pub returns-clause-normal : goal.returns-clause-normal
+returns-clause-normal c =
+    let read : document_of (view c.args.value) ≡ Some (document_view c.in_ok-read_document.field-0) = search rules in
+    read_document_normal (view c.args.value) (document_view c.in_ok-read_document.field-0) read
