@@ -26,7 +26,7 @@ use Rattle.zarrs_engine_calls.specs.Patches.{IsEncodedAs, IsNotEncoded, RefusesP
 use Rattle.zarrs_engine_calls.proofs.Contents.{only_member}
 use Rattle.zarrs_engine_calls.proofs.RefusalLemmas.{memory_or_said}
 use Rattle.zarrs_engine.specs.Patches.{LeavesPartly, LeavesPatch, RefusesPutPart}
-use Rattle.zarrs_engine.proofs.PartCounts.{made_as, none_made, one_named}
+use Rattle.zarrs_engine_calls.proofs.PartCounts.{made_as, none_made, one_named}
 
 -- ---- only memory may be short
 

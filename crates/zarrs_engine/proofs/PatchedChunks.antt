@@ -26,7 +26,7 @@ use Rattle.zarrs_engine_calls.proofs.Contents.{only_member, reads_absent, reads_
 use Rattle.zarrs_engine_calls.proofs.Loops.{put_changes}
 use Rattle.zarrs_engine_layout.proofs.CutWalks.{number_is}
 use Rattle.zarrs_engine.specs.Patches.{PatchesChunk, PutsPart}
-use Rattle.zarrs_engine.proofs.PartCounts.{one_named}
+use Rattle.zarrs_engine_calls.proofs.PartCounts.{one_named}
 
 -- ---- positions of a chunk, seen from its origin
 

@@ -23,7 +23,7 @@ use Rattle.zarrs_engine_calls.specs.Patches.{HoldsPart, PatchesAll}
 use Rattle.zarrs_engine_calls.specs.ChunkBoxes.{chunk_part}
 use Rattle.zarrs_engine_calls.proofs.Contents.{member, only_member}
 use Rattle.zarrs_engine.specs.Patches.{LeavesPartly, LeavesPatch, PatchesChunk, Shares}
-use Rattle.zarrs_engine.proofs.PartCounts.{made_as}
+use Rattle.zarrs_engine_calls.proofs.PartCounts.{made_as}
 use Rattle.zarrs_engine.proofs.PatchRefusals.{partly_leaves_patch}
 use Rattle.zarrs_engine.proofs.PatchedChunks.{overlap_inside}
 

@@ -35,7 +35,7 @@ use Rattle.zarrs_engine.specs.Patches.{HasPatched, LeavesPartly, LeavesPatch, Pa
 use Rattle.zarrs_engine.specs.RegionWrites.{LeavesPart, StoresOneMore}
 use Rattle.zarrs_engine.proofs.PatchRefusals.{partly_of}
 use Rattle.zarrs_engine.proofs.PatchedChunks.{own_cells, own_part}
-use Rattle.zarrs_engine.proofs.PartCounts.{made_as, next_made, none_made, whole_made}
+use Rattle.zarrs_engine_calls.proofs.PartCounts.{made_as, next_made, none_made, whole_made}
 use Rattle.zarrs_engine.proofs.Ranges.{next_front}
 use Rattle.zarrs_engine.proofs.RegionFronts.{may_ask_then, not_yet}
 use Rattle.zarrs_engine.proofs.RegionSteps.{at_among}

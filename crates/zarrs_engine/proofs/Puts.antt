@@ -15,7 +15,7 @@ use Rattle.zarrs_engine_calls.specs.StateRefusals.{RefusesErasure, CallFails}
 use Rattle.zarrs_engine_calls.proofs.RefusalLemmas.{makes_none}
 use Rattle.zarrs_engine_layout.specs.Steps.{LeavesValues, RefusesPut}
 use Rattle.zarrs_engine.specs.Patches.{PutsPart, RefusesPutPart}
-use Rattle.zarrs_engine.proofs.PartCounts.{whole_made}
+use Rattle.zarrs_engine_calls.proofs.PartCounts.{whole_made}
 
 apart_test : (a b : List ℕ) → a ≢ b → bytes_eq a b ≡ false
 apart_test a b apart = elim (cases_Bool (bytes_eq a b)) [
