@@ -64,10 +64,7 @@ pub fn is_plain_bytes(codec: &MetadataV3) -> bool
 }
 
 /// Returns the metadata of the codec of this endian.
-pub fn bytes_metadata(
-    alloc: Global,
-    endian: Option<Endianness>,
-) -> Result<MetadataV3, AllocError>
+pub fn bytes_metadata(alloc: Global, endian: Option<Endianness>) -> Result<MetadataV3, AllocError>
     ensures { IfOk result (λ m. extension_view m ≡ extension_of_bytes endian) }
 {
     let metadata = named(alloc, "bytes")?;
