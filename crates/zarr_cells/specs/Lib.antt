@@ -1,3 +1,4 @@
+pub mod Forms
 pub mod Laws
 pub mod Lines
 pub mod Npy

@@ -1,6 +1,8 @@
 //! Cells of one size, as their bytes.
 ghost use Rattle.std.specs.Prelude.{◌≡◌, ◌≤◌, IfOk, OnOk};
 ghost use Rattle.zarrs_data_type.specs.ArrayData.{data_of, fixed};
+ghost use Rattle.zarrs_data_type.specs.Kind.{kind};
+ghost use Rattle.zarr_cells.specs.Forms.{form_of};
 ghost use Rattle.zarr_cells.specs.Raw.{ReadsRaw, WritesRaw};
 
 use crate::error::CellsError;
@@ -11,7 +13,9 @@ use zarrs_data_type::{ArrayBytes, DataType};
 use zarrs_subset::ArraySubset;
 
 /// Returns what the cells of the type say, if they are numbers or bools.
-pub fn form_of(data_type: &DataType, floats: Option<Width>) -> Option<Form> {
+pub fn form_of(data_type: &DataType, floats: Option<Width>) -> Option<Form>
+    ensures { result ≡ form_of (kind data_type.now) floats }
+{
     match data_type {
         DataType::Bool => Some(Form::Bool),
         DataType::Int8 | DataType::Int16 | DataType::Int32 | DataType::Int64 => Some(Form::Signed),
