@@ -15,3 +15,4 @@ pub mod Outcomes
 pub mod PartialEncoders
 pub mod Upgrade
 pub mod Counts
+pub mod MetadataCalls

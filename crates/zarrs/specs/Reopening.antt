@@ -1,5 +1,5 @@
 -- Why an array that is stored is not opened again.
-use Rattle.std.specs.Prelude.{◌≡◌, ◌⊎◌, ℕ, List, Err}
+use Rattle.std.specs.Prelude.{◌≡◌, ◌⊎◌, ℕ, List}
 use Rattle.zarrs_storage.specs.Store.{StoreState}
 use Rattle.zarrs_engine_calls.specs.Refusals as refusals
 use Rattle.zarrs_metadata.specs.Versions.{MetadataData}
@@ -12,11 +12,11 @@ use Rattle.zarrs.specs.Puts.{StoresMetadata, RefusesStoreMetadata}
 -- What is left of the store that was given is a store of its kind, in a state that the calls on metadata left: it refuses a
 -- key, and counts a call that failed, as stores of that kind do.
 module _ {S : Type 0} (state : S → StoreState) where
-  -- the store refused a call that writes its metadata, and said this
+  -- the store refused a call that writes its metadata
   pub record IsNotStored (o : MetadataOptionsData) (path : List ℕ) (m : MetadataData) (r : CreateRefusal) (old : StoreState) : Type 0 where
     pub left : S
     pub refused : RefusesStoreMetadata o path m refusals.storage old (state left)
-    pub said : RefusesCreation {A = Unit {0}} (Err storage) r
+    pub said : r ≡ storage
 
   -- its metadata is not stored
   abbrev pub RefusesToStore : MetadataOptionsData → List ℕ → MetadataData → CreateRefusal → StoreState → Type 0
