@@ -26,8 +26,8 @@ impl<TStorage: WritableStorageTraits> Array<TStorage> {
     /// # Errors
     /// As `store_metadata_opt`.
     pub fn store_metadata(&mut self, alloc: Global) -> Result<(), StorageError>
-        ensures stores { StoresDocuments TStorage.state
-            (metadata_options_of_array self.old) self.old self.new result }
+        ensures stores { StoresDocuments TStorage.state (metadata_options_of_array self.old)
+            self.old self.new result }
         ensures count { (m : MetadataData)
             → shown (metadata_options_of_array self.old) (metadata_of_array self.old) ≡ Ok m
             → OnOk result (Writes (documents_of m) (store_of_array TStorage.state self.old)
@@ -49,8 +49,8 @@ impl<TStorage: WritableStorageTraits> Array<TStorage> {
         alloc: Global,
         options: &ArrayMetadataOptions,
     ) -> Result<(), StorageError>
-        ensures stores { StoresDocuments TStorage.state (options_view options.now) self.old
-            self.new result }
+        ensures stores { StoresDocuments TStorage.state (options_view options.now) self.old self.new
+            result }
         ensures count { (m : MetadataData)
             → shown (options_view options.now) (metadata_of_array self.old) ≡ Ok m
             → OnOk result (Writes (documents_of m) (store_of_array TStorage.state self.old)
@@ -70,8 +70,7 @@ impl<TStorage: WritableStorageTraits> Array<TStorage> {
     /// # Errors
     /// As `erase_metadata_opt`.
     pub fn erase_metadata(&mut self, alloc: Global) -> Result<(), StorageError>
-        ensures erases { ErasesDocuments TStorage.state erase.Default self.old self.new
-            result }
+        ensures erases { ErasesDocuments TStorage.state erase.Default self.old self.new result }
         ensures count { OnOk result (Writes (documents_of (metadata_of_array self.old))
             (store_of_array TStorage.state self.old) (store_of_array TStorage.state self.new)) }
     {
