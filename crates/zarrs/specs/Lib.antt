@@ -11,6 +11,7 @@ pub mod Loans
 pub mod Elements
 pub mod Reopening
 pub mod OpeningReach
+pub mod Openings
 pub mod Outcomes
 pub mod PartialEncoders
 pub mod Upgrade

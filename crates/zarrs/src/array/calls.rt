@@ -73,22 +73,20 @@ impl<TStorage: ReadableStorageTraits> Array<TStorage> {
 
 impl<TStorage: WritableStorageTraits> Array<TStorage> {
     ghost use Rattle.std.specs.Prelude.{◌≡◌, true, false, Some, IsSome, length};
-    ghost use Rattle.std.specs.Prelude.{IfOk, IfErr, OnOk, OnErr};
+    ghost use Rattle.std.specs.Prelude.{IfOk, OnErr};
     ghost use Rattle.zarrs_chunk_grid.specs.Grids.{box_at, has_box};
     ghost use Rattle.zarrs_storage.specs.Store.{KeepsRules};
     ghost use Rattle.zarrs_engine_calls.specs.Changes.{IsPut};
     ghost use Rattle.zarrs_codec.specs.Options.{encodes_partially, stores_empty_chunks};
-    ghost use Rattle.zarrs_engine_calls.specs.Canon.{KeepsCanon};
     ghost use Rattle.zarrs_engine_calls.specs.Content.{decoded_cells};
     ghost use Rattle.zarrs_engine_layout.specs.Steps.{RefusesPut};
     ghost use Rattle.zarrs_engine_calls.specs.Patches.{writes_parts};
     ghost use Rattle.zarrs_engine_calls.specs.Reach.{MayAskCalls};
-    ghost use Rattle.zarrs_engine_calls.specs.Refusals.{refusal_of, refusal_of_storage};
-    ghost use Rattle.zarrs.specs.Outcomes.{ErasesChunkOrRefuses};
-    ghost use Rattle.zarrs_engine_calls.specs.Step.{ErasesChunks, RefusesEraseChunks};
+    ghost use Rattle.zarrs.specs.Outcomes.{ErasesChunkOrRefuses, ErasesChunksOrRefuses};
+    ghost use Rattle.zarrs.specs.Outcomes.{WritesOrRefuses};
     ghost use Rattle.zarrs_engine.specs.Outcomes.{KeepsBytes, RunsAs};
     ghost use Rattle.zarrs.specs.Arrays.{layout_of_array, state_of_array, store_of_array};
-    ghost use Rattle.zarrs.specs.Arrays.{IsUntouched, KeepsAllButShape, KeepsArray};
+    ghost use Rattle.zarrs.specs.Arrays.{IsUntouched, KeepsAllButShape};
 
     /// Stores these bytes as those of the chunk with these indices, by one writing call of the store. The chunk has a
     /// box, and the bytes decode: both are conditions, and are not tested.
@@ -104,12 +102,9 @@ impl<TStorage: WritableStorageTraits> Array<TStorage> {
         requires chunk { has_box (layout_of_array self.old).grid chunk_indices.now ≡ true }
         requires decodes { IsSome (decoded_cells (layout_of_array self.old)
             (box_at (layout_of_array self.old).grid chunk_indices.now) encoded_chunk_bytes) }
-        ensures done { OnOk result (IsPut ((layout_of_array self.old).key chunk_indices.now)
-            (Some encoded_chunk_bytes) (store_of_array TStorage.state self.old)
-            (store_of_array TStorage.state self.new)) }
-        ensures refused { IfErr result (λ e. RefusesPut (refusal_of e)
-            (store_of_array TStorage.state self.old) (store_of_array TStorage.state self.new)) }
-        ensures kept { KeepsArray self.old self.new }
+        ensures { WritesOrRefuses TStorage.state
+            (IsPut ((layout_of_array self.old).key chunk_indices.now) (Some encoded_chunk_bytes))
+            RefusesPut self.old self.new result }
     {
         self.engine
             .store_encoded_chunk(alloc, chunk_indices, encoded_chunk_bytes)
@@ -137,15 +132,8 @@ impl<TStorage: WritableStorageTraits> Array<TStorage> {
         chunks: &R,
     ) -> Result<(), StorageError>
         requires { length (R.region chunks.now).start ≡ (layout_of_array self.old).grid.dimensions }
-        ensures done { OnOk result (ErasesChunks (layout_of_array self.old) (R.region chunks.now)
-            (store_of_array TStorage.state self.old) (store_of_array TStorage.state self.new)) }
-        ensures refused { IfErr result
-            (λ e. RefusesEraseChunks (layout_of_array self.old) (R.region chunks.now)
-            (refusal_of_storage e) (store_of_array TStorage.state self.old)
-            (store_of_array TStorage.state self.new)) }
-        ensures canonical { KeepsCanon (layout_of_array self.old) false
-            (store_of_array TStorage.state self.old) (store_of_array TStorage.state self.new) }
-        ensures kept { KeepsArray self.old self.new }
+        ensures { ErasesChunksOrRefuses TStorage.state (R.region chunks.now) self.old self.new
+            result }
     {
         let Ok(chunks) = chunks.to_array_subset(alloc) else {
             return Err(StorageError::OutOfMemory);

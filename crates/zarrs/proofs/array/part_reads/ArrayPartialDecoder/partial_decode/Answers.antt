@@ -4,8 +4,8 @@ use Rattle.zarrs_engine_calls.specs.Step.{RefusesRetrievePart}
 use Rattle.zarrs.specs.PartialEncoders.{indices_of_decoder, layout_of_decoder, store_of_decoder}
 use Rattle.zarrs.proofs.array.part_reads.ArrayPartialDecoder.partial_decode.Goals as goal
 
-pub returns-in_err-chunk_subset-clause-refused : goal.returns-in_err-chunk_subset-clause-refused
-returns-in_err-chunk_subset-clause-refused g c =
+pub returns-in_err-chunk_subset : goal.returns-in_err-chunk_subset
+returns-in_err-chunk_subset g c =
     let layout = layout_of_decoder c.args.self.now in
     let index = indices_of_decoder c.args.self.now in
     let part = g.R.ArraySubsetTraits.region c.args.chunk_subset.now in
