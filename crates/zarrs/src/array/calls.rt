@@ -9,14 +9,15 @@ use zarrs_storage::{Bytes, ReadableStorageTraits, StorageError, WritableStorageT
 use zarrs_subset::ArraySubsetTraits;
 
 impl<TStorage: ReadableStorageTraits> Array<TStorage> {
-    ghost use Rattle.std.specs.Prelude.{◌≡◌, IfOk, IfErr, OnOk, None};
+    ghost use Rattle.std.specs.Prelude.{◌≡◌, IfOk, IfErr};
     ghost use Rattle.std.specs.Prelude.{length, map, option_map};
     ghost use Rattle.zarrs_subset.specs.Regions.{positions};
     ghost use Rattle.zarrs_engine_calls.specs.Reach.{MayAskChunk, MayAskChunks};
     ghost use Rattle.zarrs_engine_calls.specs.Content.{value_at};
-    ghost use Rattle.zarrs_engine_calls.specs.Refusals.{RefusesBy, refusal_of, length_refusal, key_refusal};
+    ghost use Rattle.zarrs_engine_calls.specs.Refusals.{refusal_of, key_refusal};
     ghost use Rattle.zarrs_engine.specs.Encoded.{RefusesEncoded, stored_values};
     ghost use Rattle.zarrs.specs.Arrays.{layout_of_array, store_of_array};
+    ghost use Rattle.zarrs.specs.Queries.{Answers};
 
     /// Returns the bytes that are stored for the chunk with these indices, of which there is one for each dimension, or
     /// `None` if it is absent.
@@ -32,14 +33,10 @@ impl<TStorage: ReadableStorageTraits> Array<TStorage> {
             ≡ (layout_of_array self.now).grid.dimensions }
         requires ask { MayAskChunk (layout_of_array self.now) chunk_indices.now
             (store_of_array TStorage.state self.now) }
-        ensures value { IfOk result (λ value. option_map (λ v. v.items) value
+        ensures { Answers (key_refusal (layout_of_array self.now) chunk_indices.now
+            (store_of_array TStorage.state self.now)) (λ value. option_map (λ v. v.items) value
             ≡ value_at (store_of_array TStorage.state self.now)
-            ((layout_of_array self.now).key chunk_indices.now)) }
-        ensures accepted { OnOk result (key_refusal (layout_of_array self.now) chunk_indices.now
-            (store_of_array TStorage.state self.now) ≡ None) }
-        ensures refused { IfErr result (λ e. RefusesBy
-            (key_refusal (layout_of_array self.now) chunk_indices.now
-            (store_of_array TStorage.state self.now)) (refusal_of e)) }
+            ((layout_of_array self.now).key chunk_indices.now)) result }
     {
         self.engine.retrieve_encoded_chunk(alloc, chunk_indices)
     }
