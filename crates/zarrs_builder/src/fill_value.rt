@@ -1,7 +1,6 @@
 //! The fill value of a builder, as a caller may give it.
 ghost use Rattle.std.specs.Prelude.{◌≡◌, None, Ok, IfOk, IfErr, IsOk, string_bytes};
-ghost use Rattle.serde_json.specs.Data.{boolean, number, string, unsigned};
-ghost use Rattle.serde_json.specs.Find.{of_integer};
+ghost use Rattle.serde_json.specs.Data.{boolean, string};
 ghost use Rattle.serde_json.specs.View.{view};
 ghost use Rattle.zarrs_metadata_parts.specs.FillValue.{fill_data};
 ghost use Rattle.zarrs_metadata_parts.specs.Lists.{list_data};
@@ -9,12 +8,12 @@ ghost use Rattle.zarrs_data_type.specs.Kind.{kind};
 ghost use Rattle.zarrs_data_type.specs.TypeMetadata.{kind_name};
 ghost use Rattle.zarrs_options.specs.Refusals.{RefusesCreation, create_refusal_of, said_or};
 ghost use Rattle.zarrs_options.specs.Refusals as refusal;
-ghost use Rattle.zarrs_builder.specs.Given.{fill_chosen, by_bytes, by_metadata, fill_given};
+ghost use Rattle.zarrs_builder.specs.Given.{FillData, fill_chosen, by_bytes, by_metadata, fill_given};
 
 use crate::numbers::{FillNumber, list_value};
 use serde_json::Value;
 use std::alloc::{AllocError, Global};
-use zarrs_data_type::{DataType, DataTypeFillValueMetadataError, FillValue, IntoField};
+use zarrs_data_type::{DataType, DataTypeFillValueMetadataError, FillValue};
 use zarrs_metadata::FillValueMetadata;
 use zarrs_options::ArrayCreateError;
 
@@ -105,20 +104,33 @@ fn invalid_metadata(
     }
 }
 
-impl IntoField<ArrayBuilderFillValue> for ArrayBuilderFillValue {
-    ghost gives = { λ value field. fill_given field ≡ fill_given value };
+/// A value that becomes the fill value of a builder, in memory of the allocator.
+pub trait IntoFillValue {
+    // What is given by it.
+    ghost fill: { Self → FillData };
 
-    fn into_field(self, _alloc: Global) -> Result<ArrayBuilderFillValue, AllocError>
+    /// The fill value.
+    ///
+    /// # Errors
+    /// `AllocError`: out of memory.
+    fn into_fill_value(self, alloc: Global) -> Result<ArrayBuilderFillValue, AllocError>
+        ensures { IfOk result (λ field. fill_given field ≡ fill self) };
+}
+
+impl IntoFillValue for ArrayBuilderFillValue {
+    ghost fill = { fill_given };
+
+    fn into_fill_value(self, _alloc: Global) -> Result<ArrayBuilderFillValue, AllocError>
         ensures { result ≡ Ok self }
     {
         Ok(self)
     }
 }
 
-impl IntoField<ArrayBuilderFillValue> for FillValue {
-    ghost gives = { λ value field. fill_given field ≡ by_bytes value };
+impl IntoFillValue for FillValue {
+    ghost fill = { by_bytes };
 
-    fn into_field(self, _alloc: Global) -> Result<ArrayBuilderFillValue, AllocError>
+    fn into_fill_value(self, _alloc: Global) -> Result<ArrayBuilderFillValue, AllocError>
         ensures field { IfOk result (λ field. fill_given field ≡ by_bytes self) }
         ensures made { IsOk result }
     {
@@ -128,10 +140,10 @@ impl IntoField<ArrayBuilderFillValue> for FillValue {
     }
 }
 
-impl IntoField<ArrayBuilderFillValue> for FillValueMetadata {
-    ghost gives = { λ value field. fill_given field ≡ by_metadata (fill_data value) };
+impl IntoFillValue for FillValueMetadata {
+    ghost fill = { λ metadata. by_metadata (fill_data metadata) };
 
-    fn into_field(self, _alloc: Global) -> Result<ArrayBuilderFillValue, AllocError>
+    fn into_fill_value(self, _alloc: Global) -> Result<ArrayBuilderFillValue, AllocError>
         ensures field { IfOk result (λ field. fill_given field ≡ by_metadata (fill_data self)) }
         ensures made { IsOk result }
     {
@@ -141,10 +153,10 @@ impl IntoField<ArrayBuilderFillValue> for FillValueMetadata {
     }
 }
 
-impl IntoField<ArrayBuilderFillValue> for bool {
-    ghost gives = { λ value field. fill_given field ≡ by_metadata (boolean value) };
+impl IntoFillValue for bool {
+    ghost fill = { λ value. by_metadata (boolean value) };
 
-    fn into_field(self, _alloc: Global) -> Result<ArrayBuilderFillValue, AllocError>
+    fn into_fill_value(self, _alloc: Global) -> Result<ArrayBuilderFillValue, AllocError>
         ensures field { IfOk result (λ field. fill_given field ≡ by_metadata (boolean self)) }
         ensures made { IsOk result }
     {
@@ -152,10 +164,10 @@ impl IntoField<ArrayBuilderFillValue> for bool {
     }
 }
 
-impl IntoField<ArrayBuilderFillValue> for String {
-    ghost gives = { λ text field. fill_given field ≡ by_metadata (string (string_bytes text)) };
+impl IntoFillValue for String {
+    ghost fill = { λ text. by_metadata (string (string_bytes text)) };
 
-    fn into_field(self, _alloc: Global) -> Result<ArrayBuilderFillValue, AllocError>
+    fn into_fill_value(self, _alloc: Global) -> Result<ArrayBuilderFillValue, AllocError>
         ensures field { IfOk result (λ field. fill_given field
             ≡ by_metadata (string (string_bytes self))) }
         ensures made { IsOk result }
@@ -164,141 +176,53 @@ impl IntoField<ArrayBuilderFillValue> for String {
     }
 }
 
-impl IntoField<ArrayBuilderFillValue> for &str {
-    ghost gives = { λ text field. fill_given field ≡ by_metadata (string text.now) };
+impl IntoFillValue for &str {
+    ghost fill = { λ text. by_metadata (string text.now) };
 
-    fn into_field(self, alloc: Global) -> Result<ArrayBuilderFillValue, AllocError> {
+    fn into_fill_value(self, alloc: Global) -> Result<ArrayBuilderFillValue, AllocError> {
         Ok(ArrayBuilderFillValue::of_value(Value::try_from_str(alloc, self)?))
     }
 }
 
-impl IntoField<ArrayBuilderFillValue> for u8 {
-    ghost gives = { λ value field. fill_given field ≡ by_metadata (number (unsigned value)) };
+impl<T: FillNumber> IntoFillValue for T {
+    ghost fill = { λ value. by_metadata (T.json value) };
 
-    fn into_field(self, _alloc: Global) -> Result<ArrayBuilderFillValue, AllocError>
-        ensures field { IfOk result (λ field. fill_given field
-            ≡ by_metadata (number (unsigned self))) }
+    fn into_fill_value(self, _alloc: Global) -> Result<ArrayBuilderFillValue, AllocError>
+        ensures field { IfOk result (λ field. fill_given field ≡ by_metadata (T.json self)) }
         ensures made { IsOk result }
     {
         Ok(ArrayBuilderFillValue::of_value(self.to_json()))
     }
 }
 
-impl IntoField<ArrayBuilderFillValue> for u16 {
-    ghost gives = { λ value field. fill_given field ≡ by_metadata (number (unsigned value)) };
+impl<T: FillNumber> IntoFillValue for Vec<T> {
+    ghost fill = { λ numbers. by_metadata (list_data T.json numbers.items) };
 
-    fn into_field(self, _alloc: Global) -> Result<ArrayBuilderFillValue, AllocError>
-        ensures field { IfOk result (λ field. fill_given field
-            ≡ by_metadata (number (unsigned self))) }
-        ensures made { IsOk result }
-    {
-        Ok(ArrayBuilderFillValue::of_value(self.to_json()))
-    }
-}
-
-impl IntoField<ArrayBuilderFillValue> for u32 {
-    ghost gives = { λ value field. fill_given field ≡ by_metadata (number (unsigned value)) };
-
-    fn into_field(self, _alloc: Global) -> Result<ArrayBuilderFillValue, AllocError>
-        ensures field { IfOk result (λ field. fill_given field
-            ≡ by_metadata (number (unsigned self))) }
-        ensures made { IsOk result }
-    {
-        Ok(ArrayBuilderFillValue::of_value(self.to_json()))
-    }
-}
-
-impl IntoField<ArrayBuilderFillValue> for u64 {
-    ghost gives = { λ value field. fill_given field ≡ by_metadata (number (unsigned value)) };
-
-    fn into_field(self, _alloc: Global) -> Result<ArrayBuilderFillValue, AllocError>
-        ensures field { IfOk result (λ field. fill_given field
-            ≡ by_metadata (number (unsigned self))) }
-        ensures made { IsOk result }
-    {
-        Ok(ArrayBuilderFillValue::of_value(self.to_json()))
-    }
-}
-
-impl IntoField<ArrayBuilderFillValue> for i8 {
-    ghost gives = { λ value field. fill_given field ≡ by_metadata (number (of_integer value)) };
-
-    fn into_field(self, _alloc: Global) -> Result<ArrayBuilderFillValue, AllocError>
-        ensures field { IfOk result (λ field. fill_given field
-            ≡ by_metadata (number (of_integer self))) }
-        ensures made { IsOk result }
-    {
-        Ok(ArrayBuilderFillValue::of_value(self.to_json()))
-    }
-}
-
-impl IntoField<ArrayBuilderFillValue> for i16 {
-    ghost gives = { λ value field. fill_given field ≡ by_metadata (number (of_integer value)) };
-
-    fn into_field(self, _alloc: Global) -> Result<ArrayBuilderFillValue, AllocError>
-        ensures field { IfOk result (λ field. fill_given field
-            ≡ by_metadata (number (of_integer self))) }
-        ensures made { IsOk result }
-    {
-        Ok(ArrayBuilderFillValue::of_value(self.to_json()))
-    }
-}
-
-impl IntoField<ArrayBuilderFillValue> for i32 {
-    ghost gives = { λ value field. fill_given field ≡ by_metadata (number (of_integer value)) };
-
-    fn into_field(self, _alloc: Global) -> Result<ArrayBuilderFillValue, AllocError>
-        ensures field { IfOk result (λ field. fill_given field
-            ≡ by_metadata (number (of_integer self))) }
-        ensures made { IsOk result }
-    {
-        Ok(ArrayBuilderFillValue::of_value(self.to_json()))
-    }
-}
-
-impl IntoField<ArrayBuilderFillValue> for i64 {
-    ghost gives = { λ value field. fill_given field ≡ by_metadata (number (of_integer value)) };
-
-    fn into_field(self, _alloc: Global) -> Result<ArrayBuilderFillValue, AllocError>
-        ensures field { IfOk result (λ field. fill_given field
-            ≡ by_metadata (number (of_integer self))) }
-        ensures made { IsOk result }
-    {
-        Ok(ArrayBuilderFillValue::of_value(self.to_json()))
-    }
-}
-
-impl<T: FillNumber> IntoField<ArrayBuilderFillValue> for Vec<T> {
-    ghost gives = { λ numbers field. fill_given field
-        ≡ by_metadata (list_data T.json numbers.items) };
-
-    fn into_field(self, alloc: Global) -> Result<ArrayBuilderFillValue, AllocError> {
+    fn into_fill_value(self, alloc: Global) -> Result<ArrayBuilderFillValue, AllocError> {
         Ok(ArrayBuilderFillValue::of_value(list_value(alloc, &self)?))
     }
 }
 
-impl<T: FillNumber> IntoField<ArrayBuilderFillValue> for &[T] {
-    ghost gives = { λ numbers field. fill_given field
-        ≡ by_metadata (list_data T.json numbers.now) };
+impl<T: FillNumber> IntoFillValue for &[T] {
+    ghost fill = { λ numbers. by_metadata (list_data T.json numbers.now) };
 
-    fn into_field(self, alloc: Global) -> Result<ArrayBuilderFillValue, AllocError> {
+    fn into_fill_value(self, alloc: Global) -> Result<ArrayBuilderFillValue, AllocError> {
         Ok(ArrayBuilderFillValue::of_value(list_value(alloc, self)?))
     }
 }
 
-impl<T: FillNumber, const N: usize> IntoField<ArrayBuilderFillValue> for [T; N] {
-    ghost gives = { λ numbers field. fill_given field ≡ by_metadata (list_data T.json numbers) };
+impl<T: FillNumber, const N: usize> IntoFillValue for [T; N] {
+    ghost fill = { λ numbers. by_metadata (list_data T.json numbers) };
 
-    fn into_field(self, alloc: Global) -> Result<ArrayBuilderFillValue, AllocError> {
+    fn into_fill_value(self, alloc: Global) -> Result<ArrayBuilderFillValue, AllocError> {
         Ok(ArrayBuilderFillValue::of_value(list_value(alloc, &self)?))
     }
 }
 
-impl<T: FillNumber, const N: usize> IntoField<ArrayBuilderFillValue> for &[T; N] {
-    ghost gives = { λ numbers field. fill_given field
-        ≡ by_metadata (list_data T.json numbers.now) };
+impl<T: FillNumber, const N: usize> IntoFillValue for &[T; N] {
+    ghost fill = { λ numbers. by_metadata (list_data T.json numbers.now) };
 
-    fn into_field(self, alloc: Global) -> Result<ArrayBuilderFillValue, AllocError> {
+    fn into_fill_value(self, alloc: Global) -> Result<ArrayBuilderFillValue, AllocError> {
         Ok(ArrayBuilderFillValue::of_value(list_value(alloc, self)?))
     }
 }

@@ -92,7 +92,7 @@ fn copied_from<TStorage>(alloc: Global, array: &Array<TStorage>) -> Result<Copie
     ensures names { IfOk result (λ f. option_map (λ n. map name_view n.items) f.dimension_names
         ≡ dimension_names_of (metadata_of_array array.now)) }
 {
-    let fill_value = fill_metadata(alloc, array)?.into_field(alloc)?;
+    let fill_value = fill_metadata(alloc, array)?.into_fill_value(alloc)?;
     let shape = Vec::from_slice(alloc, array.shape())?;
     let chunk_grid = grid_field(alloc, array.chunk_grid())?;
     let data_type = array.data_type().try_clone(alloc)?.into_field(alloc)?;

@@ -1,7 +1,7 @@
 //! Setters of a builder: each replaces its part and keeps the others.
 use super::{ArrayBuilder, grid_field};
 use crate::data_type::ArrayBuilderDataType;
-use crate::fill_value::ArrayBuilderFillValue;
+use crate::fill_value::IntoFillValue;
 use crate::names::given_names;
 use serde_json::{Map, Value};
 use std::alloc::Global;
@@ -22,7 +22,7 @@ impl ArrayBuilder {
     ghost use Rattle.zarrs_codec_array.specs.ArrayCodecs.{array_codec_data};
     ghost use Rattle.zarrs_codec.specs.Chains.{bytes_codec_data};
     ghost use Rattle.zarrs_metadata_v3.specs.View.{fields_view};
-    ghost use Rattle.zarrs_builder.specs.Given.{AreGiven};
+    ghost use Rattle.zarrs_builder.specs.Given.{AreGiven, fill_given};
     ghost use Rattle.zarrs_builder.specs.Builders.{builder_view, shape_of, chunk_grid_of};
     ghost use Rattle.zarrs_builder.specs.Builders.{data_type_of, fill_value_of, HasGrid};
     ghost use Rattle.zarrs_builder.specs.Builders.{dimension_names_in, subchunk_shape_in};
@@ -88,18 +88,18 @@ impl ArrayBuilder {
     }
 
     /// Sets the fill value.
-    pub fn fill_value<F: IntoField<ArrayBuilderFillValue>>(
+    pub fn fill_value<F: IntoFillValue>(
         &mut self,
         alloc: Global,
         fill_value: F,
     ) -> &mut Self
         ensures same_loan { result.ghost_name ≡ self.entry.ghost_name }
-        ensures set { IfOk (fill_value_of result.now) (F.gives fill_value) }
+        ensures set { IfOk (fill_value_of result.now) (λ f. fill_given f ≡ F.fill fill_value) }
         ensures kept { builder_view result.now ≡ record (builder_view self.old) {
           fill_value = (builder_view result.now).fill_value;
         } }
     {
-        self.fill_value = fill_value.into_field(alloc);
+        self.fill_value = fill_value.into_fill_value(alloc);
         self
     }
 
