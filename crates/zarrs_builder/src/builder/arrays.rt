@@ -18,7 +18,7 @@ ghost use Rattle.zarrs_builder.specs.declared.builder.ArrayBuilder.{ArrayBuilder
 use super::{ArrayBuilder, grid_field};
 use crate::copies::{copied_codecs, copied_dimension_names, copied_fields};
 use crate::data_type::ArrayBuilderDataType;
-use crate::fill_value::ArrayBuilderFillValue;
+use crate::fill_value::{ArrayBuilderFillValue, IntoFillValue};
 use serde_json::{Map, Value};
 use std::alloc::{AllocError, Global};
 use zarrs::Array;
