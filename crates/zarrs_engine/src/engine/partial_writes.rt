@@ -31,7 +31,6 @@ impl<
     ghost use Rattle.zarrs_codec_chain.specs.Chain.{partial_encoding};
     ghost use Rattle.zarrs_codec_chain.specs.Options.{encodes_partially, stores_empty_chunks};
     ghost use Rattle.zarrs_engine_calls.specs.ArgumentRefusals.{part_refusal};
-    ghost use Rattle.zarrs_engine_calls.specs.Changes.{IsPut};
     ghost use Rattle.zarrs_engine_calls.specs.ChunkBoxes.{part_box};
     ghost use Rattle.zarrs_engine_calls.specs.Content.{value_at};
     ghost use Rattle.zarrs_engine_calls.specs.Patches.{PatchesAll, RefusesPartly, RefusesPatches};
@@ -42,11 +41,10 @@ impl<
     ghost use Rattle.zarrs_engine_calls.specs.Refusals.{refusal_of_storage};
     ghost use Rattle.zarrs_engine_layout.specs.Covers.{CoverRegion};
     ghost use Rattle.zarrs_engine.specs.RegionWrites.{AreCovered};
-    ghost use Rattle.zarrs_engine_layout.specs.Steps.{RefusesPut};
     ghost use Rattle.zarrs_engine.specs.Engine.{layout_of, store_of, KeepsLayout};
     ghost use Rattle.zarrs_engine.specs.Outcomes.{EncodesPartOrRefuses, Writes};
-    ghost use Rattle.zarrs_engine.specs.Patches.{LeavesPartly, LeavesPatch, PatchesChunk, Shares};
-    ghost use Rattle.zarrs_engine.specs.Patches.{SharesEach};
+    ghost use Rattle.zarrs_engine.specs.Patches.{LeavesPartly, LeavesPatch, PatchesChunk, PutsPart};
+    ghost use Rattle.zarrs_engine.specs.Patches.{RefusesPutPart, Shares, SharesEach};
 
     /// Returns whether the parts of chunks are written by themselves: the chain and the store can.
     pub(crate) fn encodes_partly(&self) -> bool
@@ -86,8 +84,9 @@ impl<
         key: &StoreKey,
         write: PartialWrite,
     ) -> Result<(), StorageError>
-        ensures { Writes refusal_of_storage S.state (IsPut key.now (after (change_of write)
-            (value_at (store_of S.state self.old) key.now))) RefusesPut self.old self.new result }
+        ensures { Writes refusal_of_storage S.state (PutsPart key.now (after (change_of write)
+            (value_at (store_of S.state self.old) key.now))) (RefusesPutPart key.now)
+            self.old self.new result }
     {
         match write {
             PartialWrite::Put(offset, bytes) => {

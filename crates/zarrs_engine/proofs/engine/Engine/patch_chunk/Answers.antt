@@ -53,7 +53,7 @@ returns-in_err-put_part g c =
     let old = g.S.ReadableStorageTraits.state c.args.self.now.storage in
     let new = g.S.ReadableStorageTraits.state c.put_part.new.self.storage in
     let e = c.in_err-put_part.field-0.0 in
-    let left = put_leaves_partly layout keep index part held e old new (ap is_some c.in_ok-write.ensures.written) c.in_err-put_part.ensures.refused in
+    let left = put_leaves_partly layout keep index part held c.in_ok-key.key e old new (ap is_some c.in_ok-write.ensures.written) c.in_err-put_part.ensures.refused in
     let why = subst (λ (r : Refusal). LeavesPartly layout keep index part held r old new) (sym (storage_said e)) left in
     search (rules, why)
 
