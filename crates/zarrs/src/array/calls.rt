@@ -69,21 +69,15 @@ impl<TStorage: ReadableStorageTraits> Array<TStorage> {
 }
 
 impl<TStorage: WritableStorageTraits> Array<TStorage> {
-    ghost use Rattle.std.specs.Prelude.{◌≡◌, true, false, Some, IsSome, length};
-    ghost use Rattle.std.specs.Prelude.{IfOk, OnErr};
+    ghost use Rattle.std.specs.Prelude.{◌≡◌, true, Some, IsSome, length};
     ghost use Rattle.zarrs_chunk_grid.specs.Grids.{box_at, has_box};
-    ghost use Rattle.zarrs_storage.specs.Store.{KeepsRules};
     ghost use Rattle.zarrs_engine_calls.specs.Changes.{IsPut};
-    ghost use Rattle.zarrs_codec.specs.Options.{encodes_partially, stores_empty_chunks};
     ghost use Rattle.zarrs_engine_calls.specs.Content.{decoded_cells};
-    ghost use Rattle.zarrs_engine_layout.specs.Steps.{RefusesPut};
-    ghost use Rattle.zarrs_engine_calls.specs.Patches.{writes_parts};
     ghost use Rattle.zarrs_engine_calls.specs.Reach.{MayAskCalls};
+    ghost use Rattle.zarrs_engine_layout.specs.Steps.{RefusesPut};
     ghost use Rattle.zarrs.specs.Outcomes.{ErasesChunkOrRefuses, ErasesChunksOrRefuses};
-    ghost use Rattle.zarrs.specs.Outcomes.{WritesOrRefuses};
-    ghost use Rattle.zarrs_engine.specs.Outcomes.{KeepsBytes, RunsAs};
-    ghost use Rattle.zarrs.specs.Arrays.{layout_of_array, state_of_array, store_of_array};
-    ghost use Rattle.zarrs.specs.Arrays.{IsUntouched, KeepsAllButShape};
+    ghost use Rattle.zarrs.specs.Outcomes.{ReplaysCalls, WritesOrRefuses};
+    ghost use Rattle.zarrs.specs.Arrays.{layout_of_array, state_of_array};
 
     /// Stores these bytes as those of the chunk with these indices, by one writing call of the store. The chunk has a
     /// box, and the bytes decode: both are conditions, and are not tested.
@@ -150,19 +144,7 @@ impl<TStorage: WritableStorageTraits> Array<TStorage> {
     ) -> Result<Vec<Reply>, AllocError>
         requires { MayAskCalls (layout_of_array self.old) calls.now
             (state_of_array TStorage.state self.old) }
-        ensures run { IfOk result (λ replies. RunsAs (layout_of_array self.old) options.now
-            calls.now replies.items (state_of_array TStorage.state self.old)
-            (state_of_array TStorage.state self.new)) }
-        ensures untouched { OnErr result (IsUntouched self.old self.new) }
-        ensures layout { layout_of_array self.new ≡ layout_of_array self.old }
-        ensures kept { KeepsAllButShape self.old self.new }
-        ensures reach { KeepsRules (store_of_array TStorage.state self.old)
-            (store_of_array TStorage.state self.new) }
-        // So it is if no part is written by itself.
-        ensures bytes { writes_parts (encodes_partially options.now) (layout_of_array self.old)
-            (store_of_array TStorage.state self.old) ≡ false
-            → KeepsBytes (layout_of_array self.old) (stores_empty_chunks options.now)
-            (store_of_array TStorage.state self.old) (store_of_array TStorage.state self.new) }
+        ensures { ReplaysCalls TStorage.state calls.now options.now self.old self.new result }
     {
         let replies = replay(alloc, &mut self.engine, calls, options)?;
         overwrite_shape(&mut self.metadata, self.engine.chunk_grid().array_shape());
