@@ -88,11 +88,7 @@ impl ArrayBuilder {
     }
 
     /// Sets the fill value.
-    pub fn fill_value<F: IntoFillValue>(
-        &mut self,
-        alloc: Global,
-        fill_value: F,
-    ) -> &mut Self
+    pub fn fill_value<F: IntoFillValue>(&mut self, alloc: Global, fill_value: F) -> &mut Self
         ensures same_loan { result.ghost_name ≡ self.entry.ghost_name }
         ensures set { IfOk (fill_value_of result.now) (λ f. fill_given f ≡ F.fill fill_value) }
         ensures kept { builder_view result.now ≡ record (builder_view self.old) {

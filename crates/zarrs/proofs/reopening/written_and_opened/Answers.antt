@@ -35,9 +35,9 @@ returns g c =
     let path : c.as_str.result.now ≡ path_of_array array = c.as_str.ensures.text ∙ c.in_ok-path.ensures.path in
     let there = subst (λ (p : List ℕ). opened c.in_ok-path.version new p ≡ Ok (metadata_of_array made)) path c.in_ok-opened.ensures.metadata in
     let reads : (m : MetadataData) → shown o (metadata_of_array array) ≡ Ok m → IsReadAgain m → metadata_of_array made ≡ normal_metadata m = λ m is again. (
-        let version : c.in_ok-path.version ≡ version_of m = c.in_ok-path.ensures.version m is in
-        let by_version = subst (λ (v : MetadataRetrieveVersion). opened v new (path_of_array array) ≡ Ok (metadata_of_array made)) version there in
-        stored_opens o (path_of_array array) (metadata_of_array array) m (metadata_of_array made) (meaning_of_array array) (store_of_array state array) new (parts_are array) is again c.in_ok-storage.ensures.stored by_version) in
+    let version : c.in_ok-path.version ≡ version_of m = c.in_ok-path.ensures.version m is in
+    let by_version = subst (λ (v : MetadataRetrieveVersion). opened v new (path_of_array array) ≡ Ok (metadata_of_array made)) version there in
+    stored_opens o (path_of_array array) (metadata_of_array array) m (metadata_of_array made) (meaning_of_array array) (store_of_array state array) new (parts_are array) is again c.in_ok-storage.ensures.stored by_version) in
     record {
       metadata = reads;
       path = c.in_ok-opened.ensures.path ∙ path;
