@@ -1,11 +1,11 @@
 -- Why a part of a chunk is not written by itself.
-use Rattle.std.proofs.Common.{◌≡◌, ℕ, Bool, true, cond, not, List, [], ◌∷◌, Option, Some, None, refl, sym, ap, subst, ◌∙◌, inl, inr, arith}
+use Rattle.std.proofs.Common.{◌≡◌, ℕ, Bool, true, cond, List, [], ◌∷◌, Option, Some, None, refl, sym, ap, subst, ◌∙◌, inl, inr, arith}
 use Rattle.std.proofs.lemmas.Bool.{cases_Bool}
 use Rattle.zarrs_subset.specs.Regions.{Box, overlap_of}
 use Rattle.zarrs_subset.specs.Refusals.{RefusesLength}
 use Rattle.zarrs_subset.specs.declared.error.ArraySubsetError.{ArraySubsetError}
 use Rattle.zarrs_subset.specs.declared.error.ArraySubsetError.TheVariants as subset
-use Rattle.zarrs_chunk_grid.specs.Grids.{box_at, has_box}
+use Rattle.zarrs_chunk_grid.specs.Grids.{box_at}
 use Rattle.zarrs_storage.specs.Store.{StoreState, Values}
 use Rattle.zarrs_storage.specs.declared.error.StorageError.{StorageError}
 use Rattle.zarrs_storage.specs.declared.error.StorageError.TheVariants as stored
@@ -20,7 +20,6 @@ use Rattle.zarrs_engine_calls.specs.Errors.{error_of_subset}
 use Rattle.zarrs_engine_calls.specs.ChunkBoxes.{chunk_part}
 use Rattle.zarrs_engine_calls.specs.Refusals as refusal
 use Rattle.zarrs_engine_calls.specs.Refusals.{Refusal, RefusesBy, key_refusal, refusal_of, refusal_of_codec, refusal_of_storage}
-use Rattle.zarrs_engine_calls.specs.ArgumentRefusals.{chunk_refusal}
 use Rattle.zarrs_engine_calls.specs.StateRefusals.{RefusesErasure, RefusesPart}
 use Rattle.zarrs_engine_calls.specs.Patches.{IsEncodedAs, IsNotEncoded, RefusesPartOf, RefusesPartly}
 use Rattle.zarrs_engine_calls.proofs.Contents.{only_member}
@@ -60,12 +59,6 @@ module _ (layout : Layout) (keep : Bool) (index : List ℕ) (part : Box) (held :
       | inr miss ↦ absurd (let clash : None ≡ Some r = sym (ap (λ b. cond b (Some refusal.storage) None) miss) ∙ said in cc)
     ]
   ]
-
-  -- no memory for the box of the chunk
-  pub box_partly : (state : StoreState) (r : Refusal) → has_box layout.grid index ≡ true → RefusesBy (chunk_refusal layout index) r → RefusesPartly layout keep index part held 0 state r
-  box_partly state r has why =
-      let none : chunk_refusal layout index ≡ None = ap (λ b. cond (not b) (Some (refusal.indices index)) None) has in
-      subst (RefusesPartly layout keep index part held 0 state) (sym (only_memory (chunk_refusal layout index) r none why)) tt
 
   -- the part is not encoded
   pub encoded_partly : (state : StoreState) (r : Refusal)

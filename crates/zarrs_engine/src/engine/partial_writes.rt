@@ -139,12 +139,14 @@ impl<
         &mut self,
         alloc: Global,
         chunk_indices: &[u64],
+        chunk: &ArraySubset,
         part: &ArraySubset,
         part_data: &ArrayBytes<'_>,
         options: &CodecOptions,
     ) -> Result<(), ArrayError>
         requires supported { (layout_of self.old).chain.encodes_partly ≡ true }
         requires boxed { has_box (layout_of self.old).grid chunk_indices.now ≡ true }
+        requires chunk { box_of chunk.now ≡ box_at (layout_of self.old).grid chunk_indices.now }
         requires part { LiesInShape (box_of part.now)
             (box_at (layout_of self.old).grid chunk_indices.now).shape }
         requires cells { HasCells (layout_of self.old).kind (data_of part_data.now)
@@ -157,8 +159,7 @@ impl<
             (stores_empty_chunks options.now) chunk_indices.now (box_of part.now)
             (data_of part_data.now)) self.old self.new result }
     {
-        let chunk = self.layout.chunk_box(alloc, chunk_indices)?;
-        let write = self.part_write(alloc, chunk_indices, &chunk, part, part_data, options)?;
+        let write = self.part_write(alloc, chunk_indices, chunk, part, part_data, options)?;
         let key = self.layout.chunk_key(alloc, chunk_indices)?;
         self.put_part(alloc, &key, write)?;
         Ok(())
@@ -199,6 +200,7 @@ impl<
             return self.patch_chunk(
                 alloc,
                 chunk_indices,
+                &chunk,
                 chunk_subset,
                 chunk_subset_data,
                 options,
@@ -273,7 +275,7 @@ impl<
         }
         let shared = region.overlap(alloc, &chunk)?;
         let (part, data) = self.seen_cells(alloc, region, region_data, &shared, chunk.start())?;
-        self.patch_chunk(alloc, chunk_indices, &part, &data, options)
+        self.patch_chunk(alloc, chunk_indices, &chunk, &part, &data, options)
     }
 
     /// Stores the region's data in these chunks, one after another, those of which it covers a part by themselves.
