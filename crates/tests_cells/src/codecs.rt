@@ -5,9 +5,9 @@ use std::num::NonZeroU64;
 use std::process::Abort;
 use zarrs_codec::{
     ArrayToBytesCodec, BytesCodec, CellsCodec, CodecError, CodecOptions, CodecSpecificOptions,
-    Endianness, MaskCodec, Misfit, OptionalCodec, PackBitsCodec, ReshapeCodec, ReshapeExtent,
-    ShardingCodec, ShardingCodecBuilder, ShardingCodecOptions, ShardingIndexLocation,
-    SubchunkWriteOrder, TransposeCodec,
+    Endianness, MaskCodec, Misfit, OptionalCodec, PackBitsCodec, PlainCodec, ReshapeCodec,
+    ReshapeExtent, ShardingCodec, ShardingCodecBuilder, ShardingCodecOptions,
+    ShardingIndexLocation, SubchunkWriteOrder, TransposeCodec,
 };
 use zarrs_data_type::DataType;
 
@@ -75,10 +75,13 @@ fn codecs_of_bytes_have_the_parts_that_they_are_given(rt: HostRuntime) {
     );
     must(&rt, BytesCodec::new(None).endian().is_none());
     let mask = MaskCodec::PackBits(PackBitsCodec);
-    let inner = CellsCodec::Bytes(BytesCodec::big());
+    let inner = CellsCodec::Plain(PlainCodec::Bytes(BytesCodec::big()));
     let codec = OptionalCodec::new(rt.alloc(), mask, inner).expect(&rt, "no refusal");
     must_eq(&rt, codec.mask_codec(), mask);
-    must(&rt, matches!(codec.data_codec(), CellsCodec::Bytes(_)));
+    must(
+        &rt,
+        matches!(codec.data_codec(), CellsCodec::Plain(PlainCodec::Bytes(_))),
+    );
 }
 
 /// Subchunks of two cells, with a codec of their bytes alone.

@@ -2,7 +2,7 @@
 
 pub use zarrs_codec::{
     ByteSource, BytesCodec, CellsCodec, Endianness, LeafCodec, MaskCodec, OptionalCodec,
-    PackBitsCodec, ReshapeCodec, ReshapeExtent, ShardingCodec, ShardingCodecBuilder,
+    PackBitsCodec, PlainCodec, ReshapeCodec, ReshapeExtent, ShardingCodec, ShardingCodecBuilder,
     ShardingCodecOptions, ShardingIndexLocation, SliceSource, SourceBytes, SqueezeCodec,
     SubchunkWriteOrder, TransposeCodec, VlenBytesCodec, VlenCodec, VlenUtf8Codec, Window,
     default_array_to_bytes_codec,

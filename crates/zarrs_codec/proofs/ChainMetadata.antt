@@ -23,18 +23,17 @@ use Rattle.serde_json.specs.Data.{Data}
 use Rattle.serde_json.specs.View.{items_of}
 use Rattle.zarrs_metadata_parts.specs.Lists.{all_of, list_of, list_data, number_data}
 use Rattle.zarrs_metadata_parts.proofs.ListLemmas.{all_of-items_of}
-use Rattle.zarrs_codec_leaf.specs.Bytes.{endian_of}
-use Rattle.zarrs_codec_leaf.specs.declared.bytes_codec.Endianness.TheVariants.{Little, Big}
 use Rattle.zarrs_codec_optional.specs.Metadata.{extension_of_cells_codec}
 use Rattle.zarrs_codec_optional.specs.CellsCodecs.{optional_codec_data}
-use Rattle.zarrs_codec_optional.specs.Configurations.{CellsCodecData, bytes, packbits, vlen_utf8, vlen_bytes, vlen, optional}
+use Rattle.zarrs_codec_optional.specs.Configurations.{CellsCodecData, plain, optional}
+use Rattle.zarrs_codec_optional.specs.PlainCodecs.{bytes}
 use Rattle.zarrs_codec_optional.proofs.OptionalMetadata.{codec_again, cells_codec_back}
 use Rattle.zarrs_codec.specs.Chains.{is_at_start, bytes_codec_data}
 use Rattle.zarrs_codec_optional.specs.ShardingMetadata.{sizes_of, ShardingData, sharding_data, sharding_from, sharding_extension, size_said}
 use Rattle.zarrs_codec.specs.declared.codec.ArrayToBytesCodec.{ArrayToBytesCodec}
 use Rattle.zarrs_codec.specs.declared.codec.ArrayToBytesCodec as code
 use Rattle.zarrs_codec.specs.Metadata.{bytes_codec_said, sharding_with, array_codecs_said, chain_of_parts, chain_said, last_of, extension_of_bytes_codec}
-use Rattle.zarrs_codec.specs.Configurations.{BytesCodecData, cells, sharding}
+use Rattle.zarrs_codec.specs.Configurations.{BytesCodecData, cells, sharding, is_plain}
 use Rattle.zarrs_codec.specs.Metadata.{extensions_of_chain}
 use Rattle.zarrs_codec.proofs.ShardingMetadata.{said-cells, said-sharding}
 
@@ -105,13 +104,9 @@ data_again sizes false codecs again =
     ap (λ s. sharding_from (Some false) s (list_of extension_of (list_data extension_data codecs))) (sizes_back sizes) ∙ ap (sharding_from (Some false) (Some (sizes_of sizes))) again
 
 other_name : (c : CellsCodecData) → bytes_eq (extension_of_cells_codec c).name (codes "sharding_indexed") ≡ false
-other_name (bytes None) = refl
-other_name (bytes (Some Little)) = refl
-other_name (bytes (Some Big)) = refl
-other_name packbits = refl
-other_name vlen_utf8 = refl
-other_name vlen_bytes = refl
-other_name vlen = refl
+other_name (plain (bytes None)) = refl
+other_name (plain (bytes (Some endian))) = refl
+other_name (plain codec) = refl
 other_name (optional mask inner) = refl
 
 cells_back : (c : CellsCodecData) → bytes_codec_said (extension_of_bytes_codec (cells c)) ≡ Some (cells c)
@@ -125,15 +120,15 @@ sharding_back sizes at_start cs c back =
     said-sharding (sharding_extension d) d refl (data_again sizes at_start codecs (all_again (map array_codec_data cs) c))
     ∙ ap (sharding_with d) (chain_with_back cs c back)
 
+plain_back : (c : BytesCodecData) → is_plain c ≡ true → bytes_codec_said (extension_of_bytes_codec c) ≡ Some c
+plain_back (cells codec) is = cells_back codec
+plain_back (sharding chunk_shape at_start front last) is = cc
+
 -- what is written for a codec of the code reads as that codec
 pub bytes_codec_back : (c : ArrayToBytesCodec) → bytes_codec_said (extension_of_bytes_codec (bytes_codec_data c)) ≡ Some (bytes_codec_data c)
-bytes_codec_back (code.Bytes codec) = cells_back (bytes (endian_of codec))
-bytes_codec_back (code.PackBits codec) = cells_back packbits
-bytes_codec_back (code.VlenUtf8 codec) = cells_back vlen_utf8
-bytes_codec_back (code.VlenBytes codec) = cells_back vlen_bytes
-bytes_codec_back (code.Vlen codec) = cells_back vlen
 bytes_codec_back (code.Optional codec) = cells_back (optional_codec_data codec)
 bytes_codec_back (code.Sharding' p sub at before last after) = sharding_back sub.items (is_at_start at) before.items (bytes_codec_data last) (bytes_codec_back last)
+bytes_codec_back c = plain_back (bytes_codec_data c) refl
 
 -- what is written for a chain of the code reads as that chain
 pub chain_back : (cs : List ArrayToArrayCodec) (c : ArrayToBytesCodec)

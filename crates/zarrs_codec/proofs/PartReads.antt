@@ -140,25 +140,3 @@ leaf_refused dec TooLarge refuses (Codec (error.DoesNotFit _)) why = why
 leaf_refused dec TooLarge refuses (Codec error.SizeOverflow) why = absurd why
 leaf_refused dec TooLarge refuses (Codec error.OutOfMemory) why = why
 leaf_refused dec TooLarge refuses (Source e) why = why
-
--- a codec that is neither `bytes` nor `sharding_indexed` needs every place
-pub other_places : (c : ArrayToBytesCodec) (may_read : ℕ → Bool) (window : Window) (k : Kind) (s : List ℕ) (part : Box) (b : List ℕ)
-    → ((x : _) → c ≡ codec.Bytes x → ⊥) → ((p sub at before last after : _) → c ≡ codec.Sharding' p sub at before last after → ⊥)
-    → MayRead may_read window ((codec_meaning c).places k s part b) → MayRead may_read window (all_places k s part b)
-other_places (codec.Bytes x) may_read window k s part b not_bytes not_shard may = absurd (not_bytes x refl)
-other_places (codec.Sharding' p sub at before last after) may_read window k s part b not_bytes not_shard may = absurd (not_shard p sub at before last after refl)
-other_places (codec.PackBits x) may_read window k s part b not_bytes not_shard may = may
-other_places (codec.VlenUtf8 x) may_read window k s part b not_bytes not_shard may = may
-other_places (codec.VlenBytes x) may_read window k s part b not_bytes not_shard may = may
-other_places (codec.Vlen x) may_read window k s part b not_bytes not_shard may = may
-other_places (codec.Optional x) may_read window k s part b not_bytes not_shard may = may
-
--- and decodes the chunk whole
-pub other_whole : (c : ArrayToBytesCodec) → ((x : _) → c ≡ codec.Bytes x → ⊥) → ((p sub at before last after : _) → c ≡ codec.Sharding' p sub at before last after → ⊥) → DecodesWhole (codec_meaning c)
-other_whole (codec.Bytes x) not_bytes not_shard = absurd (not_bytes x refl)
-other_whole (codec.Sharding' p sub at before last after) not_bytes not_shard = absurd (not_shard p sub at before last after refl)
-other_whole (codec.PackBits x) not_bytes not_shard = λ k f s part b. refl
-other_whole (codec.VlenUtf8 x) not_bytes not_shard = λ k f s part b. refl
-other_whole (codec.VlenBytes x) not_bytes not_shard = λ k f s part b. refl
-other_whole (codec.Vlen x) not_bytes not_shard = λ k f s part b. refl
-other_whole (codec.Optional x) not_bytes not_shard = λ k f s part b. refl

@@ -11,11 +11,12 @@ use Rattle.zarrs_metadata_parts.specs.Members.{has_only}
 use Rattle.zarrs_data_type.specs.TypeMetadata.{levels_in}
 use Rattle.zarrs_data_type_kinds.proofs.TypeReading.{get_member-depth}
 use Rattle.zarrs_codec_leaf.specs.Chosen.{some_is, only_parts, bind_parts, map_parts}
+use Rattle.zarrs_codec_optional.specs.BytesMetadata.{are_little_bytes}
 use Rattle.zarrs_codec_optional.specs.Metadata.{cells_codec_said}
 use Rattle.zarrs_codec_optional.proofs.OptionalMetadata.{extension_levels, array_depth, levels_of_member}
 use Rattle.zarrs_codec.specs.Metadata.{array_codecs_said, chain_of_parts, chain_said, front_of, last_of, sharding_with, bytes_codec_within, bytes_codec_said}
 use Rattle.zarrs_codec.specs.Configurations.{BytesCodecData, cells}
-use Rattle.zarrs_codec_optional.specs.ShardingMetadata.{ShardingData, sharding_data, sharding_from, sharding_names, is_plain_index, location_said, size_said}
+use Rattle.zarrs_codec_optional.specs.ShardingMetadata.{ShardingData, sharding_data, sharding_from, sharding_names, location_said, size_said}
 
 -- ---- a codec in a configuration has fewer levels
 
@@ -55,7 +56,7 @@ sharding-levels ms d e is at =
     let at_start = location_said (get_member (codes "index_location") ms) in
     let sizes = option_and_then (list_of size_said) (get_member (codes "chunk_shape") ms) in
     let list = option_and_then (list_of extension_of) (get_member (codes "codecs") ms) in
-    let whole = only_parts (has_only sharding_names ms && is_plain_index (get_member (codes "index_codecs") ms)) (sharding_from at_start sizes list) d is in
+    let whole = only_parts (has_only sharding_names ms && are_little_bytes (get_member (codes "index_codecs") ms)) (sharding_from at_start sizes list) d is in
     let found = bind_parts (get_member (codes "codecs") ms) (list_of extension_of) d.codecs (codecs_read at_start sizes list d whole.1) in
     last_levels ms (codes "codecs") found.0 d.codecs e found.1 found.2 at
 

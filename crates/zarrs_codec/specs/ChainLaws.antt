@@ -16,12 +16,8 @@ use Rattle.zarrs_codec_shard.proofs.Sizes.{part_size}
 use Rattle.zarrs_codec_array.specs.ArrayCodecs.{arrays_meaning, arrays-lawful}
 use Rattle.zarrs_codec_array.specs.declared.array.ArrayToArrayCodec.{ArrayToArrayCodec}
 use Rattle.zarrs_codec_leaf.specs.Bytes.{endian_of}
-use Rattle.zarrs_codec_leaf.specs.BytesLaws.{bytes-lawful}
 use Rattle.zarrs_codec_leaf.specs.Leaf.{LeafMeaning, IsLawfulLeaf}
-use Rattle.zarrs_codec_leaf.specs.PackBitsLaws.{packbits-lawful}
-use Rattle.zarrs_codec_leaf.specs.VlenLaws.{vlen-lawful}
-use Rattle.zarrs_codec_leaf.specs.VlenStringsLaws.{vlen_utf8-lawful, vlen_bytes-lawful}
-use Rattle.zarrs_codec_optional.specs.CellsCodecLaws.{optional_codec-lawful}
+use Rattle.zarrs_codec_optional.specs.CellsCodecLaws.{cells-lawful}
 use Rattle.zarrs_codec_shard.specs.Sharded.{IsLawfulSubchunk, IsLawfulShard}
 use Rattle.zarrs_codec_shard.specs.PartialShards.{PartialChange, after, stored_cells, IsUpdated}
 use Rattle.zarrs_codec_shard.proofs.PartialCells.{shard-updates}
@@ -31,8 +27,9 @@ use Rattle.zarrs_codec.specs.declared.codec.ArrayToBytesCodec as codec
 use Rattle.zarrs_codec.specs.declared.chain.CodecChain.{CodecChain}
 use Rattle.zarrs_codec_chain.specs.Chain.{ChainMeaning, IsLawfulChain, chunk_cells}
 use Rattle.zarrs_codec_optional.specs.ShardingMetadata.{sizes_of}
-use Rattle.zarrs_codec.specs.Chains.{array_to_array_of, array_to_bytes_of, behind, codec_meaning, is_at_start, leaf_meaning, chain_meaning, no_codec}
-use Rattle.zarrs_codec.specs.Configurations.{no_cells, whole_chunk, with_places}
+use Rattle.zarrs_codec.specs.Chains.{array_to_array_of, array_to_bytes_of, behind, bytes_codec_data, codec_meaning, is_at_start, leaf_meaning, chain_meaning, no_codec}
+use Rattle.zarrs_codec.specs.Configurations.{BytesCodecData, cells_meaning_of, no_cells, whole_chunk, with_places}
+use Rattle.zarrs_codec.specs.Configurations as configured
 use Rattle.zarrs_codec_chain.specs.Deciding.{PlacesDecide}
 use Rattle.zarrs_codec_chain.proofs.DecidingPlaces.{all_decide, cells_decide, shards_decide}
 use Rattle.zarrs_codec_chain.specs.Places.{Places, boxes_meet, all_places-inside, cell_places, cell_places-inside, places_behind-inside, shard_places-inside}
@@ -48,14 +45,12 @@ no_cells-lawful = record {
   untaken_decoded = λ k n b not. refl;
 }
 
+leaf_data-lawful : (c : BytesCodecData) → IsLawfulLeaf (cells_meaning_of c)
+leaf_data-lawful (configured.cells codec) = cells-lawful codec
+leaf_data-lawful (configured.sharding chunk_shape at_start front last) = no_cells-lawful
+
 pub leaf-lawful : (c : ArrayToBytesCodec) → IsLawfulLeaf (leaf_meaning c)
-leaf-lawful (codec.Bytes bytes) = bytes-lawful (endian_of bytes)
-leaf-lawful (codec.PackBits packbits) = packbits-lawful
-leaf-lawful (codec.VlenUtf8 texts) = vlen_utf8-lawful
-leaf-lawful (codec.VlenBytes strings) = vlen_bytes-lawful
-leaf-lawful (codec.Vlen strings) = vlen-lawful
-leaf-lawful (codec.Optional optional) = optional_codec-lawful optional
-leaf-lawful (codec.Sharding' p sub at before last after) = no_cells-lawful
+leaf-lawful c = leaf_data-lawful (bytes_codec_data c)
 
 pub whole_chunk-lawful : (leaf : LeafMeaning) → IsLawfulLeaf leaf → IsLawfulChain (whole_chunk leaf)
 whole_chunk-lawful leaf law = record {

@@ -8,7 +8,8 @@ use Rattle.zarrs_codec_leaf.specs.declared.bytes_codec.Endianness.{Endianness}
 use Rattle.zarrs_codec_leaf.specs.declared.bytes_codec.Endianness.TheVariants as endian
 use Rattle.zarrs_codec_leaf.specs.Leaf.{LeafMeaning}
 use Rattle.zarrs_codec_optional.specs.CellsCodecs.{optional_codec_data}
-use Rattle.zarrs_codec_optional.specs.Configurations.{bytes, packbits, vlen_utf8, vlen_bytes, vlen}
+use Rattle.zarrs_codec_optional.specs.Configurations.{plain}
+use Rattle.zarrs_codec_optional.specs.PlainCodecs.{bytes, packbits, vlen_utf8, vlen_bytes, vlen}
 use Rattle.zarrs_codec_optional.specs.ShardingMetadata.{sizes_of}
 use Rattle.zarrs_codec.specs.declared.codec.ArrayToBytesCodec.{ArrayToBytesCodec}
 use Rattle.zarrs_codec.specs.declared.codec.ArrayToBytesCodec as codec
@@ -49,11 +50,11 @@ is_at_start location.End = false
 -- ---- the configurations of the code's codecs
 
 abbrev pub bytes_codec_data : ArrayToBytesCodec → BytesCodecData
-bytes_codec_data (codec.Bytes c) = cells (bytes (endian_of c))
-bytes_codec_data (codec.PackBits c) = cells packbits
-bytes_codec_data (codec.VlenUtf8 c) = cells vlen_utf8
-bytes_codec_data (codec.VlenBytes c) = cells vlen_bytes
-bytes_codec_data (codec.Vlen c) = cells vlen
+bytes_codec_data (codec.Bytes c) = cells (plain (bytes (endian_of c)))
+bytes_codec_data (codec.PackBits c) = cells (plain packbits)
+bytes_codec_data (codec.VlenUtf8 c) = cells (plain vlen_utf8)
+bytes_codec_data (codec.VlenBytes c) = cells (plain vlen_bytes)
+bytes_codec_data (codec.Vlen c) = cells (plain vlen)
 bytes_codec_data (codec.Optional c) = cells (optional_codec_data c)
 bytes_codec_data (codec.Sharding' p sub at before last after) =
     sharding (sizes_of sub.items) (is_at_start at) (map array_codec_data before.items) (bytes_codec_data last)

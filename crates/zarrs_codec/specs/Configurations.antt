@@ -3,7 +3,8 @@ use Rattle.std.specs.Prelude.{ℕ, Bool, true, false, Some, None, List, [], ◌�
 use Rattle.zarrs_subset.specs.Boxes.{position_count}
 use Rattle.zarrs_codec_array.specs.Configurations.{ArrayCodecData, meaning_of_array_codecs}
 use Rattle.zarrs_codec_leaf.specs.Leaf.{LeafMeaning}
-use Rattle.zarrs_codec_optional.specs.Configurations.{CellsCodecData, bytes, meaning_of_cells_codec}
+use Rattle.zarrs_codec_optional.specs.Configurations.{CellsCodecData, plain, meaning_of_cells_codec}
+use Rattle.zarrs_codec_optional.specs.PlainCodecs.{bytes}
 use Rattle.zarrs_codec_chain.specs.Places.{Places, all_places, cell_places}
 use Rattle.zarrs_codec_chain.specs.Chain.{ChainMeaning, decodes_stored, is_too_large}
 use Rattle.zarrs_codec.specs.Shardings.{sharded}
@@ -15,6 +16,11 @@ pub data BytesCodecData : Type 0 where
   cells : CellsCodecData → BytesCodecData
   -- one of shards, with the chain of the subchunks
   sharding : (chunk_shape : List ℕ) → (at_start : Bool) → (front : List ArrayCodecData) → (last : BytesCodecData) → BytesCodecData
+
+-- whether a codec is one of plain cells
+abbrev pub is_plain : BytesCodecData → Bool
+is_plain (cells (plain codec)) = true
+is_plain codec = false
 
 -- a chain: array-to-array codecs, the first one first, then one array-to-bytes codec
 pub record ChainData : Type 0 where
@@ -53,7 +59,7 @@ with_places places m = record m { places = places; reads_too_large = λ k f s pa
 
 -- a codec of cells takes the cells of the whole chunk; a part under `bytes` is read by the places of its cells
 abbrev pub meaning_of_whole_codec : CellsCodecData → ChainMeaning
-meaning_of_whole_codec (bytes endian) = with_places cell_places (whole_chunk (meaning_of_cells_codec (bytes endian)))
+meaning_of_whole_codec (plain (bytes endian)) = with_places cell_places (whole_chunk (meaning_of_cells_codec (plain (bytes endian))))
 meaning_of_whole_codec codec = whole_chunk (meaning_of_cells_codec codec)
 
 -- whether there is no codec

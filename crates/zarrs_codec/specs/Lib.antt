@@ -10,13 +10,17 @@ pub mod ShardingBuilders
 pub mod Shardings
 pub mod SoleShardings
 pub mod Through
+pub use Rattle.zarrs_codec_optional.specs.BytesMetadata
 pub use Rattle.zarrs_codec_optional.specs.CellsCodecLaws
 pub use Rattle.zarrs_codec_optional.specs.CellsCodecs
 pub use Rattle.zarrs_codec_optional.specs.Optional
 pub use Rattle.zarrs_codec_optional.specs.OptionalLaws
+pub use Rattle.zarrs_codec_optional.specs.PackBitsMetadata
+pub use Rattle.zarrs_codec_optional.specs.PlainCodecs
 pub use Rattle.zarrs_codec_optional.specs.ShardingMetadata
 pub use Rattle.zarrs_codec_optional.specs.ShardingViews
 pub use Rattle.zarrs_codec_optional.specs.Sole
+pub use Rattle.zarrs_codec_optional.specs.Texts
 pub use Rattle.zarrs_codec_optional.specs.VlenMetadata
 pub use Rattle.zarrs_codec_chain.specs.Chain
 pub use Rattle.zarrs_codec_chain.specs.Options

@@ -41,5 +41,5 @@ pub use zarrs_codec_leaf::{
     ByteSource, BytesCodec, CodecError, Endianness, LeafCodec, Misfit, PackBitsCodec, SliceSource,
     SourceBytes, StoredValue, VlenBytesCodec, VlenCodec, VlenUtf8Codec, Window,
 };
-pub use zarrs_codec_optional::{CellsCodec, MaskCodec, OptionalCodec, codec_of, named};
+pub use zarrs_codec_optional::{CellsCodec, MaskCodec, OptionalCodec, PlainCodec, codec_of, named};
 pub use zarrs_codec_shard::PartialWrite;

@@ -7,7 +7,6 @@ ghost use Rattle.zarrs_data_type.specs.Kind.{kind};
 ghost use Rattle.zarrs_codec_array.specs.Metadata.{extension_of_array_codec};
 ghost use Rattle.zarrs_codec_array.specs.ArrayCodecs.{array_codec_data};
 ghost use Rattle.zarrs_codec_optional.specs.Metadata.{cells_codec_said};
-ghost use Rattle.zarrs_codec_optional.specs.CellsCodecs.{cells_codec_data};
 ghost use Rattle.zarrs_codec.specs.Chains.{bytes_codec_data, chain_data, sharding_data_of};
 ghost use Rattle.zarrs_codec.specs.Configurations.{cells};
 ghost use Rattle.zarrs_codec.specs.Metadata.{array_codecs_said, bytes_codec_said, chain_of_parts, chain_said};
@@ -21,33 +20,16 @@ use crate::sharding::{ShardingCodec, ShardingIndexLocation};
 use std::alloc::{AllocError, Global};
 use zarrs_codec_array::ArrayToArrayCodec;
 use zarrs_codec_optional::{
-    CellsCodec, ShardingParts, codec_of, default_cells_codec, named, sharding_metadata,
-    sharding_parts,
+    ShardingParts, codec_of, default_cells_codec, sharding_metadata, sharding_parts,
 };
 use zarrs_data_type::DataType;
 use zarrs_metadata_parts::{MetadataV3, PluginCreateError};
 
-impl From<CellsCodec> for ArrayToBytesCodec {
-    ghost from_gives = { λ codec made. bytes_codec_data made ≡ cells (cells_codec_data codec) };
-
-    fn from(codec: CellsCodec) -> ArrayToBytesCodec {
-        match codec {
-            CellsCodec::Bytes(codec) => ArrayToBytesCodec::Bytes(codec),
-            CellsCodec::PackBits(codec) => ArrayToBytesCodec::PackBits(codec),
-            CellsCodec::VlenUtf8(codec) => ArrayToBytesCodec::VlenUtf8(codec),
-            CellsCodec::VlenBytes(codec) => ArrayToBytesCodec::VlenBytes(codec),
-            CellsCodec::Vlen(codec) => ArrayToBytesCodec::Vlen(codec),
-            CellsCodec::Optional(codec) => ArrayToBytesCodec::Optional(codec),
-        }
-    }
-}
-
 impl ArrayToBytesCodec {
     /// Reads the codec that metadata says: `sharding_indexed` with the `chunk_shape` of its subchunks, a list of whole
     /// numbers that are not 0, their chain `codecs`, `index_codecs` of `bytes`, little endian, alone, and the
-    /// `index_location` `start` or `end`, which may be absent for the end; or a codec that looks at cells alone:
-    /// `bytes`, `packbits`, `vlen-utf8`, `vlen-bytes`, `zarrs.vlen` or `zarrs.optional` (Zarr V3 core specification,
-    /// "Codecs").
+    /// `index_location` `start` or `end`, which may be absent for the end; or a codec that looks at cells alone, as
+    /// `codec_of` says (Zarr V3 core specification, "Codecs").
     ///
     /// # Errors
     /// `Other` if the metadata says none of them: for another name, a member of another shape, and a configuration
@@ -91,13 +73,9 @@ impl ArrayToBytesCodec {
             extension_view m ≡ extension_of_bytes_codec (bytes_codec_data self.now)) }
     {
         match self {
-            ArrayToBytesCodec::Bytes(codec) => CellsCodec::Bytes(*codec).written(alloc),
-            ArrayToBytesCodec::PackBits(_) => named(alloc, "packbits"),
-            ArrayToBytesCodec::VlenUtf8(_) => named(alloc, "vlen-utf8"),
-            ArrayToBytesCodec::VlenBytes(_) => named(alloc, "vlen-bytes"),
-            ArrayToBytesCodec::Vlen(codec) => CellsCodec::Vlen(*codec).written(alloc),
             ArrayToBytesCodec::Optional(codec) => codec.written(alloc),
             ArrayToBytesCodec::Sharding(codec) => codec.written(alloc),
+            _ => self.plain().create_metadata(alloc),
         }
     }
 
@@ -110,11 +88,6 @@ impl ArrayToBytesCodec {
         ensures { IfOk result (λ copy. bytes_codec_data copy ≡ bytes_codec_data self.now) }
     {
         match self {
-            ArrayToBytesCodec::Bytes(codec) => Ok(ArrayToBytesCodec::Bytes(*codec)),
-            ArrayToBytesCodec::PackBits(codec) => Ok(ArrayToBytesCodec::PackBits(*codec)),
-            ArrayToBytesCodec::VlenUtf8(codec) => Ok(ArrayToBytesCodec::VlenUtf8(*codec)),
-            ArrayToBytesCodec::VlenBytes(codec) => Ok(ArrayToBytesCodec::VlenBytes(*codec)),
-            ArrayToBytesCodec::Vlen(codec) => Ok(ArrayToBytesCodec::Vlen(*codec)),
             ArrayToBytesCodec::Optional(codec) => {
                 Ok(ArrayToBytesCodec::Optional(codec.try_clone(alloc)?))
             }
@@ -122,6 +95,7 @@ impl ArrayToBytesCodec {
                 let copy = codec.try_clone(alloc)?;
                 Ok(ArrayToBytesCodec::Sharding(Box::new(alloc, copy)?))
             }
+            _ => Ok(ArrayToBytesCodec::from(self.plain())),
         }
     }
 }
@@ -207,9 +181,8 @@ impl CodecChain {
     }
 }
 
-/// Returns the array-to-bytes codec of a chain that names none: `bytes`, little endian, for a type that is fixed and
-/// not optional, `vlen-utf8` for `string`, `vlen-bytes` for `bytes`, and `zarrs.optional` for an optional type, with
-/// `packbits` for the mask and the codec of its inner type for the data.
+/// Returns the array-to-bytes codec of a chain that names none: `PlainCodec::default_of` a type that is not optional, and
+/// `zarrs.optional` for an optional type, with `packbits` for the mask and the codec of its inner type for the data.
 ///
 /// # Errors
 /// `AllocError`: out of memory.

@@ -13,8 +13,9 @@ use Rattle.zarrs_data_type.specs.TypeMetadata.{is_optional_name, levels_in}
 use Rattle.zarrs_data_type_kinds.proofs.TypeReading.{get_member-depth}
 use Rattle.zarrs_codec_leaf.specs.Chosen.{some_is, only_parts, bind_parts, map_parts}
 use Rattle.zarrs_codec_leaf.specs.declared.bytes_codec.Endianness.TheVariants.{Little, Big}
-use Rattle.zarrs_codec_optional.specs.Configurations.{MaskCodecData, byte_mask, packed_mask, CellsCodecData, bytes, packbits, vlen_utf8, vlen_bytes, vlen, optional}
-use Rattle.zarrs_codec_optional.specs.Metadata.{cells_codec_named, mask_codec_said, optional_parts, optional_said}
+use Rattle.zarrs_codec_optional.specs.Configurations.{MaskCodecData, byte_mask, packed_mask, CellsCodecData, plain, optional}
+use Rattle.zarrs_codec_optional.specs.Metadata.{mask_codec_said, optional_parts, optional_said, plain_said}
+use Rattle.zarrs_codec_optional.specs.PlainCodecs.{PlainCodecData, bytes, extension_of_plain_codec}
 use Rattle.zarrs_codec_optional.specs.Sole.{sole_codec}
 use Rattle.zarrs_codec_optional.specs.Metadata.{cells_codec_within, cells_codec_said, extension_of_mask_codec, optional_extension, extension_of_cells_codec}
 
@@ -115,7 +116,7 @@ within-enough : (n m : ℕ) (e : ExtensionData) → levels_in (settings e) < n �
 within-enough zero m e h k = absurd (omega arith)
 within-enough (suc n) zero e h k = absurd (omega arith)
 within-enough (suc n) (suc m) e h k =
-    ap (λ o. cond (is_optional_name e.name) o (cells_codec_named e.name (settings e))) (go (optional_parts (settings e)) refl (λ i p q. within-enough n m i p q))
+    ap (λ o. cond (is_optional_name e.name) o (plain_said e)) (go (optional_parts (settings e)) refl (λ i p q. within-enough n m i p q))
   where
     go : (o : Option (ExtensionData × ExtensionData)) → optional_parts (settings e) ≡ o
         → ((i : ExtensionData) → levels_in (settings i) < n → levels_in (settings i) < m → cells_codec_within n i ≡ cells_codec_within m i)
@@ -125,22 +126,22 @@ within-enough (suc n) (suc m) e h k =
         let fewer = optional_parts-levels (settings e) x i is in
         ap (optional_said (mask_codec_said x)) (below i (omega arith) (omega arith))
 
-pub said-plain : (e : ExtensionData) → is_optional_name e.name ≡ false → cells_codec_said e ≡ cells_codec_named e.name (settings e)
-said-plain e plain =
-    ap (λ b. cond b (option_and_then (λ p. optional_said (mask_codec_said p.0) (cells_codec_within (levels_in (settings e)) p.1)) (optional_parts (settings e))) (cells_codec_named e.name (settings e))) plain
+pub said-plain : (e : ExtensionData) → is_optional_name e.name ≡ false → cells_codec_said e ≡ plain_said e
+said-plain e other =
+    ap (λ b. cond b (option_and_then (λ p. optional_said (mask_codec_said p.0) (cells_codec_within (levels_in (settings e)) p.1)) (optional_parts (settings e))) (plain_said e)) other
 
 pub said-optional : (e m i : ExtensionData) → is_optional_name e.name ≡ true → optional_parts (settings e) ≡ Some (m, i) → cells_codec_said e ≡ optional_said (mask_codec_said m) (cells_codec_said i)
 said-optional e m i named is =
     let levels = levels_in (settings e) in
     let fewer : levels_in (settings i) < levels = optional_parts-levels (settings e) m i is in
-    ap (λ b. cond b (option_and_then (λ p. optional_said (mask_codec_said p.0) (cells_codec_within levels p.1)) (optional_parts (settings e))) (cells_codec_named e.name (settings e))) named
+    ap (λ b. cond b (option_and_then (λ p. optional_said (mask_codec_said p.0) (cells_codec_within levels p.1)) (optional_parts (settings e))) (plain_said e)) named
     ∙ ap (option_and_then (λ p. optional_said (mask_codec_said p.0) (cells_codec_within levels p.1))) is
     ∙ ap (optional_said (mask_codec_said m)) (within-enough levels (suc (levels_in (settings i))) i fewer (omega arith))
 
 pub said-no_parts : (e : ExtensionData) → is_optional_name e.name ≡ true → optional_parts (settings e) ≡ None → cells_codec_said e ≡ None
 said-no_parts e named is =
     let levels = levels_in (settings e) in
-    ap (λ b. cond b (option_and_then (λ p. optional_said (mask_codec_said p.0) (cells_codec_within levels p.1)) (optional_parts (settings e))) (cells_codec_named e.name (settings e))) named
+    ap (λ b. cond b (option_and_then (λ p. optional_said (mask_codec_said p.0) (cells_codec_within levels p.1)) (optional_parts (settings e))) (plain_said e)) named
     ∙ ap (option_and_then (λ p. optional_said (mask_codec_said p.0) (cells_codec_within levels p.1))) is
 
 -- ---- what is written reads again
@@ -151,14 +152,14 @@ mask_again (byte_mask (Some Little)) = refl
 mask_again (byte_mask (Some Big)) = refl
 mask_again packed_mask = refl
 
+plain_again : (c : PlainCodecData) → extension_of (extension_data (extension_of_plain_codec c)) ≡ Some (extension_of_plain_codec c)
+plain_again (bytes None) = refl
+plain_again (bytes (Some Little)) = refl
+plain_again (bytes (Some Big)) = refl
+plain_again c = refl
+
 pub codec_again : (c : CellsCodecData) → extension_of (extension_data (extension_of_cells_codec c)) ≡ Some (extension_of_cells_codec c)
-codec_again (bytes None) = refl
-codec_again (bytes (Some Little)) = refl
-codec_again (bytes (Some Big)) = refl
-codec_again packbits = refl
-codec_again vlen_utf8 = refl
-codec_again vlen_bytes = refl
-codec_again vlen = refl
+codec_again (plain codec) = plain_again codec
 codec_again (optional mask inner) = refl
 
 parts_again : (m : MaskCodecData) (c : CellsCodecData) → optional_parts (settings (optional_extension (extension_of_mask_codec m) (extension_of_cells_codec c))) ≡ Some (extension_of_mask_codec m, extension_of_cells_codec c)
@@ -172,14 +173,14 @@ mask_back (byte_mask (Some Little)) = refl
 mask_back (byte_mask (Some Big)) = refl
 mask_back packed_mask = refl
 
+plain_back : (c : PlainCodecData) → cells_codec_said (extension_of_plain_codec c) ≡ Some (plain c)
+plain_back (bytes None) = refl
+plain_back (bytes (Some Little)) = refl
+plain_back (bytes (Some Big)) = refl
+plain_back c = refl
+
 pub cells_codec_back : (c : CellsCodecData) → cells_codec_said (extension_of_cells_codec c) ≡ Some c
-cells_codec_back (bytes None) = refl
-cells_codec_back (bytes (Some Little)) = refl
-cells_codec_back (bytes (Some Big)) = refl
-cells_codec_back packbits = refl
-cells_codec_back vlen_utf8 = refl
-cells_codec_back vlen_bytes = refl
-cells_codec_back vlen = refl
+cells_codec_back (plain codec) = plain_back codec
 cells_codec_back (optional mask inner) =
     said-optional (extension_of_cells_codec (optional mask inner)) (extension_of_mask_codec mask) (extension_of_cells_codec inner) refl (parts_again mask inner)
     ∙ ap (λ o. optional_said o (cells_codec_said (extension_of_cells_codec inner))) (mask_back mask)

@@ -1,31 +1,16 @@
 -- The laws of codecs that look at cells alone.
-use Rattle.zarrs_codec_leaf.specs.Bytes.{endian_of}
 use Rattle.zarrs_codec_leaf.specs.BytesLaws.{bytes-lawful}
 use Rattle.zarrs_codec_leaf.specs.Leaf.{IsLawfulLeaf}
 use Rattle.zarrs_codec_leaf.specs.PackBitsLaws.{packbits-lawful}
-use Rattle.zarrs_codec_leaf.specs.VlenLaws.{vlen-lawful}
-use Rattle.zarrs_codec_leaf.specs.VlenStringsLaws.{vlen_utf8-lawful, vlen_bytes-lawful}
-use Rattle.zarrs_codec_optional.specs.declared.codec.CellsCodec.{CellsCodec}
-use Rattle.zarrs_codec_optional.specs.declared.codec.CellsCodec as codec
-use Rattle.zarrs_codec_optional.specs.declared.optional.MaskCodec.{MaskCodec}
-use Rattle.zarrs_codec_optional.specs.declared.optional.MaskCodec.TheVariants as mask
-use Rattle.zarrs_codec_optional.specs.declared.optional.OptionalCodec.{OptionalCodec}
-use Rattle.zarrs_codec_optional.specs.CellsCodecs.{cells_meaning, data_codec_of, mask_codec_of, mask_meaning, optional_meaning_of}
+use Rattle.zarrs_codec_optional.specs.Configurations.{MaskCodecData, byte_mask, packed_mask, CellsCodecData, plain, optional}
+use Rattle.zarrs_codec_optional.specs.Configurations.{meaning_of_mask_codec, meaning_of_cells_codec}
 use Rattle.zarrs_codec_optional.specs.OptionalLaws.{optional-lawful}
+use Rattle.zarrs_codec_optional.specs.PlainCodecs.{plain-lawful}
 
-pub mask-lawful : (m : MaskCodec) → IsLawfulLeaf (mask_meaning m)
-mask-lawful (mask.PackBits packbits) = packbits-lawful
-mask-lawful (mask.Bytes bytes) = bytes-lawful (endian_of bytes)
+pub mask-lawful : (m : MaskCodecData) → IsLawfulLeaf (meaning_of_mask_codec m)
+mask-lawful (byte_mask endian) = bytes-lawful endian
+mask-lawful packed_mask = packbits-lawful
 
-pub cells-lawful : (c : CellsCodec) → IsLawfulLeaf (cells_meaning c)
-cells-lawful (codec.Bytes bytes) = bytes-lawful (endian_of bytes)
-cells-lawful (codec.PackBits packbits) = packbits-lawful
-cells-lawful (codec.VlenUtf8 texts) = vlen_utf8-lawful
-cells-lawful (codec.VlenBytes strings) = vlen_bytes-lawful
-cells-lawful (codec.Vlen strings) = vlen-lawful
-cells-lawful (codec.Optional' flags p inner) = optional-lawful (mask_meaning flags) (cells_meaning inner) (mask-lawful flags) (cells-lawful inner)
-
-pub optional_codec-lawful : (codec : OptionalCodec) → IsLawfulLeaf (optional_meaning_of codec)
-optional_codec-lawful codec =
-    optional-lawful (mask_meaning (mask_codec_of codec)) (cells_meaning (data_codec_of codec)) (mask-lawful (mask_codec_of codec))
-    (cells-lawful (data_codec_of codec))
+pub cells-lawful : (c : CellsCodecData) → IsLawfulLeaf (meaning_of_cells_codec c)
+cells-lawful (plain codec) = plain-lawful codec
+cells-lawful (optional mask inner) = optional-lawful (meaning_of_mask_codec mask) (meaning_of_cells_codec inner) (mask-lawful mask) (cells-lawful inner)

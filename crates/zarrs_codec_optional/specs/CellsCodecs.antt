@@ -1,8 +1,9 @@
 -- What codecs that look at cells alone mean.
 use Rattle.zarrs_codec_leaf.specs.Bytes.{endian_of}
 use Rattle.zarrs_codec_leaf.specs.Leaf.{LeafMeaning}
-use Rattle.zarrs_codec_optional.specs.Configurations.{MaskCodecData, byte_mask, packed_mask, CellsCodecData, bytes, packbits, vlen_utf8, vlen_bytes}
-use Rattle.zarrs_codec_optional.specs.Configurations.{vlen, optional, meaning_of_mask_codec, meaning_of_cells_codec}
+use Rattle.zarrs_codec_optional.specs.Configurations.{MaskCodecData, byte_mask, packed_mask, CellsCodecData, plain, optional}
+use Rattle.zarrs_codec_optional.specs.Configurations.{meaning_of_mask_codec, meaning_of_cells_codec}
+use Rattle.zarrs_codec_optional.specs.PlainCodecs.{plain_codec_data}
 use Rattle.zarrs_codec_optional.specs.declared.codec.CellsCodec.{CellsCodec}
 use Rattle.zarrs_codec_optional.specs.declared.codec.CellsCodec as codec
 use Rattle.zarrs_codec_optional.specs.declared.optional.MaskCodec.{MaskCodec}
@@ -22,11 +23,7 @@ mask_codec_data (mask.PackBits c) = packed_mask
 mask_codec_data (mask.Bytes c) = byte_mask (endian_of c)
 
 abbrev pub cells_codec_data : CellsCodec → CellsCodecData
-cells_codec_data (codec.Bytes c) = bytes (endian_of c)
-cells_codec_data (codec.PackBits c) = packbits
-cells_codec_data (codec.VlenUtf8 c) = vlen_utf8
-cells_codec_data (codec.VlenBytes c) = vlen_bytes
-cells_codec_data (codec.Vlen c) = vlen
+cells_codec_data (codec.Plain c) = plain (plain_codec_data c)
 cells_codec_data (codec.Optional' flags p inner) = optional (mask_codec_data flags) (cells_codec_data inner)
 
 abbrev pub optional_codec_data : OptionalCodec → CellsCodecData

@@ -3,10 +3,9 @@ use Rattle.std.specs.Prelude.{Option}
 use Rattle.zarrs_codec_leaf.specs.Bytes.{bytes_meaning_of}
 use Rattle.zarrs_codec_leaf.specs.Leaf.{LeafMeaning}
 use Rattle.zarrs_codec_leaf.specs.PackBits.{packbits_meaning}
-use Rattle.zarrs_codec_leaf.specs.Vlen.{vlen_meaning}
-use Rattle.zarrs_codec_leaf.specs.VlenStrings.{vlen_utf8_meaning, vlen_bytes_meaning}
 use Rattle.zarrs_codec_leaf.specs.declared.bytes_codec.Endianness.{Endianness}
 use Rattle.zarrs_codec_optional.specs.Optional.{optional_meaning}
+use Rattle.zarrs_codec_optional.specs.PlainCodecs.{PlainCodecData, meaning_of_plain_codec}
 
 -- the codec of a mask with its configuration
 pub data MaskCodecData : Type 0 where
@@ -15,11 +14,7 @@ pub data MaskCodecData : Type 0 where
 
 -- a codec with its configuration
 pub data CellsCodecData : Type 0 where
-  bytes : Option Endianness → CellsCodecData
-  packbits : CellsCodecData
-  vlen_utf8 : CellsCodecData
-  vlen_bytes : CellsCodecData
-  vlen : CellsCodecData
+  plain : PlainCodecData → CellsCodecData
   optional : (mask : MaskCodecData) → (inner : CellsCodecData) → CellsCodecData
 
 -- what the codec of a mask means
@@ -29,9 +24,5 @@ meaning_of_mask_codec packed_mask = packbits_meaning
 
 -- what a codec means
 abbrev pub meaning_of_cells_codec : CellsCodecData → LeafMeaning
-meaning_of_cells_codec (bytes endian) = bytes_meaning_of endian
-meaning_of_cells_codec packbits = packbits_meaning
-meaning_of_cells_codec vlen_utf8 = vlen_utf8_meaning
-meaning_of_cells_codec vlen_bytes = vlen_bytes_meaning
-meaning_of_cells_codec vlen = vlen_meaning
+meaning_of_cells_codec (plain codec) = meaning_of_plain_codec codec
 meaning_of_cells_codec (optional mask inner) = optional_meaning (meaning_of_mask_codec mask) (meaning_of_cells_codec inner)

@@ -1,10 +1,14 @@
+pub mod BytesMetadata
 pub mod CellsCodecLaws
 pub mod CellsCodecs
 pub mod Configurations
 pub mod Metadata
 pub mod Optional
 pub mod OptionalLaws
+pub mod PackBitsMetadata
+pub mod PlainCodecs
 pub mod ShardingMetadata
 pub mod ShardingViews
 pub mod Sole
+pub mod Texts
 pub mod VlenMetadata

@@ -8,8 +8,9 @@ use Rattle.serde_json.specs.Find.{get_member, as_str}
 use Rattle.zarrs_metadata_parts.specs.Extension.{ExtensionData, extension_of, extension_data, ◌>>=◌}
 use Rattle.zarrs_metadata_parts.specs.Lists.{list_of, list_data, number_of, number_data}
 use Rattle.zarrs_metadata_parts.specs.Members.{has_only}
-use Rattle.zarrs_codec_optional.specs.Sole.{sole_codec, list_of_one}
-use Rattle.zarrs_codec_optional.specs.VlenMetadata.{passes, is_little_bytes, little_bytes}
+use Rattle.zarrs_codec_leaf.specs.declared.bytes_codec.Endianness.TheVariants.{Little}
+use Rattle.zarrs_codec_optional.specs.BytesMetadata.{are_little_bytes, extension_of_bytes}
+use Rattle.zarrs_codec_optional.specs.Sole.{list_of_one}
 
 -- what a configuration says: the shape of the subchunks, whether the index stands at the start, and the extension points
 -- of the chain of the subchunks
@@ -39,10 +40,6 @@ abbrev pub location_said : Option Data → Option Bool
 location_said None = Some false
 location_said (Some value) = option_and_then location_named (as_str value)
 
--- the index is encoded by `bytes`, little endian, alone
-abbrev pub is_plain_index : Option Data → Bool
-is_plain_index value = passes is_little_bytes (sole_codec value)
-
 abbrev pub sharding_names : List (List ℕ)
 sharding_names = codes "chunk_shape" ∷ codes "codecs" ∷ codes "index_codecs" ∷ codes "index_location" ∷ []
 
@@ -57,7 +54,7 @@ sharding_from at_start chunk_shape codecs = do
 -- what a configuration says
 abbrev pub sharding_data : Members → Option ShardingData
 sharding_data ms =
-    if has_only sharding_names ms && is_plain_index (get_member (codes "index_codecs") ms)
+    if has_only sharding_names ms && are_little_bytes (get_member (codes "index_codecs") ms)
     then sharding_from (location_said (get_member (codes "index_location") ms)) (option_and_then (list_of size_said) (get_member (codes "chunk_shape") ms))
     (option_and_then (list_of extension_of) (get_member (codes "codecs") ms)) else None
 
@@ -74,7 +71,7 @@ sharding_extension d = record {
   configuration = Some
       (member (codes "chunk_shape") (list_data number_data d.chunk_shape)
       (member (codes "codecs") (list_data extension_data d.codecs)
-      (member (codes "index_codecs") (list_of_one little_bytes)
+      (member (codes "index_codecs") (list_of_one (extension_of_bytes (Some Little)))
       (member (codes "index_location") (string (location_name d.at_start)) no_members))));
   must_understand = true;
 }

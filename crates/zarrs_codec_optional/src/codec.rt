@@ -8,26 +8,17 @@ ghost use Rattle.zarrs_codec_leaf.specs.Refusals.{RefusesEncoding, RefusesDecodi
 ghost use Rattle.zarrs_codec_optional.specs.CellsCodecs.{cells_meaning};
 
 use crate::optional::OptionalCodec;
+use crate::plain::PlainCodec;
 use std::alloc::Global;
-use zarrs_codec_leaf::{
-    BytesCodec, CodecError, LeafCodec, PackBitsCodec, VlenBytesCodec, VlenCodec, VlenUtf8Codec,
-};
+use zarrs_codec_leaf::{CodecError, LeafCodec};
 use zarrs_data_type::{ArrayBytes, DataType};
 
 /// A codec that makes bytes of cells, whatever the shape of the array that they are cells of.
 #[cycle(codec)]
 #[derive(Debug, Drop)]
 pub enum CellsCodec {
-    /// Elements one after another.
-    Bytes(BytesCodec),
-    /// Bools, eight to a byte.
-    PackBits(PackBitsCodec),
-    /// Texts, each behind its length.
-    VlenUtf8(VlenUtf8Codec),
-    /// Byte strings, each behind its length.
-    VlenBytes(VlenBytesCodec),
-    /// Texts or byte strings, behind the index of their offsets.
-    Vlen(VlenCodec),
+    /// A codec that holds no other codec.
+    Plain(PlainCodec),
     /// Cells of an optional type: a mask, and the inner cells.
     Optional(OptionalCodec),
 }
@@ -39,11 +30,7 @@ impl CellsCodec {
         ensures { result ≡ (cells_meaning self.now).takes (kind data_type.now) }
     {
         match self {
-            CellsCodec::Bytes(codec) => codec.takes(data_type),
-            CellsCodec::PackBits(codec) => codec.takes(data_type),
-            CellsCodec::VlenUtf8(codec) => codec.takes(data_type),
-            CellsCodec::VlenBytes(codec) => codec.takes(data_type),
-            CellsCodec::Vlen(codec) => codec.takes(data_type),
+            CellsCodec::Plain(codec) => codec.takes(data_type),
             CellsCodec::Optional(codec) => codec.takes(data_type),
         }
     }
@@ -64,11 +51,7 @@ impl CellsCodec {
             (data_of bytes.now)) }
     {
         match self {
-            CellsCodec::Bytes(codec) => codec.encode(alloc, bytes, data_type),
-            CellsCodec::PackBits(codec) => codec.encode(alloc, bytes, data_type),
-            CellsCodec::VlenUtf8(codec) => codec.encode(alloc, bytes, data_type),
-            CellsCodec::VlenBytes(codec) => codec.encode(alloc, bytes, data_type),
-            CellsCodec::Vlen(codec) => codec.encode(alloc, bytes, data_type),
+            CellsCodec::Plain(codec) => codec.encode(alloc, bytes, data_type),
             CellsCodec::Optional(codec) => codec.encode(alloc, bytes, data_type),
         }
     }
@@ -90,11 +73,7 @@ impl CellsCodec {
             (kind data_type.now) count encoded.now) }
     {
         match self {
-            CellsCodec::Bytes(codec) => codec.decode(alloc, encoded, data_type, count),
-            CellsCodec::PackBits(codec) => codec.decode(alloc, encoded, data_type, count),
-            CellsCodec::VlenUtf8(codec) => codec.decode(alloc, encoded, data_type, count),
-            CellsCodec::VlenBytes(codec) => codec.decode(alloc, encoded, data_type, count),
-            CellsCodec::Vlen(codec) => codec.decode(alloc, encoded, data_type, count),
+            CellsCodec::Plain(codec) => codec.decode(alloc, encoded, data_type, count),
             CellsCodec::Optional(codec) => codec.decode(alloc, encoded, data_type, count),
         }
     }

@@ -1,26 +1,20 @@
 //! The metadata of codecs that look at cells alone, both ways.
-ghost use Rattle.std.specs.Prelude.{◌≡◌, Some, codes, option_map, IfOk};
-ghost use Rattle.serde_json.specs.Data.{string, put};
-ghost use Rattle.serde_json.specs.View.{view};
+ghost use Rattle.std.specs.Prelude.{◌≡◌, option_map, IfOk};
 ghost use Rattle.zarrs_metadata_parts.specs.Extension.{extension_view, named, settings};
 ghost use Rattle.zarrs_data_type.specs.Kind.{kind};
 ghost use Rattle.zarrs_data_type.specs.TypeMetadata.{is_optional_name};
 ghost use Rattle.zarrs_codec_optional.specs.CellsCodecs.{mask_codec_data, cells_codec_data};
-ghost use Rattle.zarrs_codec_optional.specs.Metadata.{endian_said, bytes_with, packbits_said, plain_said};
-ghost use Rattle.zarrs_codec_optional.specs.Metadata.{cells_codec_named, mask_codec_said, as_mask, vlen_codec_said};
-ghost use Rattle.zarrs_codec_optional.specs.Metadata.{optional_parts, optional_said, cells_codec_said};
-ghost use Rattle.zarrs_codec_optional.specs.Metadata.{default_cells_codec, extension_of_bytes};
-ghost use Rattle.zarrs_codec_optional.specs.Metadata.{optional_extension, extension_of_cells_codec};
+ghost use Rattle.zarrs_codec_optional.specs.Metadata.{as_mask, cells_codec_said, default_cells_codec};
+ghost use Rattle.zarrs_codec_optional.specs.Metadata.{extension_of_cells_codec, mask_codec_said, optional_extension};
+ghost use Rattle.zarrs_codec_optional.specs.Metadata.{optional_parts, optional_said, plain_said};
+ghost use Rattle.zarrs_codec_optional.specs.PlainCodecs.{plain_codec_data};
 
 use crate::codec::CellsCodec;
 use crate::optional::{MaskCodec, OptionalCodec};
+use crate::plain::PlainCodec;
 use crate::sole::{list_of_one, sole_codec};
-use crate::vlen_metadata::{says_vlen, vlen_metadata};
-use serde_json::Value;
 use std::alloc::{AllocError, Global};
-use zarrs_codec_leaf::{
-    BytesCodec, Endianness, PackBitsCodec, VlenBytesCodec, VlenCodec, VlenUtf8Codec,
-};
+use zarrs_codec_leaf::PackBitsCodec;
 use zarrs_data_type::DataType;
 use zarrs_metadata_parts::MetadataV3;
 
@@ -35,11 +29,7 @@ impl CellsCodec {
             extension_view m ≡ extension_of_cells_codec (cells_codec_data self.now)) }
     {
         match self {
-            CellsCodec::Bytes(codec) => bytes_metadata(alloc, codec.endian()),
-            CellsCodec::PackBits(_) => named(alloc, "packbits"),
-            CellsCodec::VlenUtf8(_) => named(alloc, "vlen-utf8"),
-            CellsCodec::VlenBytes(_) => named(alloc, "vlen-bytes"),
-            CellsCodec::Vlen(_) => vlen_metadata(alloc),
+            CellsCodec::Plain(codec) => codec.create_metadata(alloc),
             CellsCodec::Optional(codec) => codec.written(alloc),
         }
     }
@@ -53,19 +43,14 @@ impl CellsCodec {
         ensures { IfOk result (λ copy. cells_codec_data copy ≡ cells_codec_data self.now) }
     {
         match self {
-            CellsCodec::Bytes(codec) => Ok(CellsCodec::Bytes(*codec)),
-            CellsCodec::PackBits(codec) => Ok(CellsCodec::PackBits(*codec)),
-            CellsCodec::VlenUtf8(codec) => Ok(CellsCodec::VlenUtf8(*codec)),
-            CellsCodec::VlenBytes(codec) => Ok(CellsCodec::VlenBytes(*codec)),
-            CellsCodec::Vlen(codec) => Ok(CellsCodec::Vlen(*codec)),
+            CellsCodec::Plain(codec) => Ok(CellsCodec::Plain(*codec)),
             CellsCodec::Optional(codec) => { Ok(CellsCodec::Optional(codec.try_clone(alloc)?)) }
         }
     }
 }
 
-/// Returns the codec of a chain that names none: `bytes`, little endian, for a type that is fixed and
-/// not optional, `vlen-utf8` for `string`, `vlen-bytes` for `bytes`, and `zarrs.optional` for an optional type, with
-/// `packbits` for the mask and the codec of its inner type for the data.
+/// Returns the codec of a chain that names none: `PlainCodec::default_of` a type that is not optional, and
+/// `zarrs.optional` for an optional type, with `packbits` for the mask and the codec of its inner type for the data.
 ///
 /// # Errors
 /// `AllocError`: out of memory.
@@ -73,22 +58,18 @@ pub fn default_cells_codec(alloc: Global, data_type: &DataType) -> Result<CellsC
     ensures { IfOk result (λ codec. cells_codec_data codec ≡ default_cells_codec (kind data_type.now)) }
 {
     match data_type {
-        DataType::String => Ok(CellsCodec::VlenUtf8(VlenUtf8Codec)),
-        DataType::Bytes => Ok(CellsCodec::VlenBytes(VlenBytesCodec)),
         DataType::Optional(inner) => {
             let data = default_cells_codec(alloc, inner)?;
             let mask = MaskCodec::PackBits(PackBitsCodec);
             Ok(CellsCodec::Optional(OptionalCodec::new(alloc, mask, data)?))
         }
-        _ => Ok(CellsCodec::Bytes(BytesCodec::little())),
+        _ => Ok(CellsCodec::Plain(PlainCodec::default_of(data_type))),
     }
 }
 
-/// Returns the codec that metadata says, if it says one: `bytes` with its `endian`, which may be absent; `packbits` with
-/// no `padding_encoding` or the text `none`; `vlen-utf8` or `vlen-bytes` without configuration; `zarrs.vlen`, by its
-/// other name `vlen`, with an index of `uint64` at the start, by the codec `bytes`, little endian, and data by the codec
-/// `bytes` without configuration; or `zarrs.optional`, by its other name `optional`, with `mask_codecs`, a list of one of
-/// `packbits` and `bytes`, and `data_codecs`, a list of one of these codecs (Zarr V3 core specification, "Codecs").
+/// Returns the codec that metadata says, if it says one: a codec of plain cells (`PlainCodec::from_metadata`), or
+/// `zarrs.optional`, by its other name `optional`, with `mask_codecs`, a list of one of `packbits` and `bytes`, and
+/// `data_codecs`, a list of one of these codecs (Zarr V3 core specification, "Codecs").
 ///
 /// # Errors
 /// `AllocError`: out of memory.
@@ -97,7 +78,7 @@ pub fn codec_of(alloc: Global, metadata: &MetadataV3) -> Result<Option<CellsCode
         ≡ cells_codec_said (extension_view metadata.now)) }
 {
     if !is_optional_name(metadata.name()) {
-        return codec_named(metadata);
+        return plain_from(metadata);
     }
     let Some((mask, inner)) = optional_parts(metadata)? else {
         return Ok(None);
@@ -153,97 +134,31 @@ fn mask_from(metadata: &MetadataV3) -> Result<Option<MaskCodec>, AllocError>
     ensures { IfOk result (λ mask. option_map mask_codec_data mask
         ≡ mask_codec_said (extension_view metadata.now)) }
 {
-    match codec_named(metadata)? {
+    match PlainCodec::from_metadata(metadata)? {
         Some(codec) => Ok(as_mask(codec)),
         None => Ok(None),
     }
 }
 
-fn as_mask(codec: CellsCodec) -> Option<MaskCodec>
-    ensures { option_map mask_codec_data result ≡ as_mask (cells_codec_data codec) }
+fn as_mask(codec: PlainCodec) -> Option<MaskCodec>
+    ensures { option_map mask_codec_data result ≡ as_mask (plain_codec_data codec) }
 {
     match codec {
-        CellsCodec::PackBits(codec) => Some(MaskCodec::PackBits(codec)),
-        CellsCodec::Bytes(codec) => Some(MaskCodec::Bytes(codec)),
+        PlainCodec::PackBits(codec) => Some(MaskCodec::PackBits(codec)),
+        PlainCodec::Bytes(codec) => Some(MaskCodec::Bytes(codec)),
         _ => None,
     }
 }
 
-/// Returns the codec that metadata says, if it says one that holds no other codecs.
-fn codec_named(metadata: &MetadataV3) -> Result<Option<CellsCodec>, AllocError>
-    ensures { IfOk result (λ codec. option_map cells_codec_data codec ≡ cells_codec_named
-        (extension_view metadata.now).name (settings (extension_view metadata.now))) }
-{
-    match metadata.name() {
-        "bytes" => Ok(bytes_from(metadata)),
-        "packbits" => Ok(packbits_from(metadata)),
-        "vlen-utf8" => Ok(plain_from(metadata, CellsCodec::VlenUtf8(VlenUtf8Codec))),
-        "vlen-bytes" => Ok(plain_from(metadata, CellsCodec::VlenBytes(VlenBytesCodec))),
-        "zarrs.vlen" | "vlen" => vlen_from(metadata),
-        _ => Ok(None),
-    }
-}
-
-fn bytes_from(metadata: &MetadataV3) -> Option<CellsCodec>
-    ensures { option_map cells_codec_data result
-        ≡ bytes_with (settings (extension_view metadata.now)) }
-{
-    if !metadata.has_only(&["endian"]) {
-        return None;
-    }
-    let endian = endian_from(metadata.member("endian"))?;
-    Some(CellsCodec::Bytes(BytesCodec::new(endian)))
-}
-
-fn endian_from(member: Option<&Value>) -> Option<Option<Endianness>>
-    ensures { result ≡ endian_said (option_map (λ value. view value.now) member.entry) }
-{
-    let Some(value) = member else {
-        return Some(None);
-    };
-    match value.as_str()? {
-        "little" => Some(Some(Endianness::Little)),
-        "big" => Some(Some(Endianness::Big)),
-        _ => None,
-    }
-}
-
-fn packbits_from(metadata: &MetadataV3) -> Option<CellsCodec>
-    ensures { option_map cells_codec_data result
-        ≡ packbits_said (settings (extension_view metadata.now)) }
-{
-    if !metadata.has_only(&["padding_encoding"]) {
-        return None;
-    }
-    let Some(value) = metadata.member("padding_encoding") else {
-        return Some(CellsCodec::PackBits(PackBitsCodec));
-    };
-    match value.as_str()? {
-        "none" => Some(CellsCodec::PackBits(PackBitsCodec)),
-        _ => None,
-    }
-}
-
-/// Returns the codec, if the metadata has no configuration or an empty one.
-fn plain_from(metadata: &MetadataV3, codec: CellsCodec) -> Option<CellsCodec>
-    ensures { option_map cells_codec_data result
-        ≡ plain_said (cells_codec_data codec) (settings (extension_view metadata.now)) }
-{
-    if metadata.has_only(&[]) {
-        Some(codec)
-    } else {
-        None
-    }
-}
-
-fn vlen_from(metadata: &MetadataV3) -> Result<Option<CellsCodec>, AllocError>
+/// Returns the codec that metadata says, if it says one that holds no other codec.
+fn plain_from(metadata: &MetadataV3) -> Result<Option<CellsCodec>, AllocError>
     ensures { IfOk result (λ codec. option_map cells_codec_data codec
-        ≡ vlen_codec_said (settings (extension_view metadata.now))) }
+        ≡ plain_said (extension_view metadata.now)) }
 {
-    if !says_vlen(metadata)? {
-        return Ok(None);
+    match PlainCodec::from_metadata(metadata)? {
+        Some(codec) => Ok(Some(CellsCodec::Plain(codec))),
+        None => Ok(None),
     }
-    Ok(Some(CellsCodec::Vlen(VlenCodec)))
 }
 
 /// Returns the metadata of a codec without configuration.
@@ -268,26 +183,4 @@ pub(crate) fn optional_metadata(
     let metadata = named(alloc, "zarrs.optional")?;
     let metadata = metadata.with_member(alloc, "data_codecs", list_of_one(alloc, inner)?)?;
     metadata.with_member(alloc, "mask_codecs", list_of_one(alloc, mask)?)
-}
-
-pub(crate) fn bytes_metadata(
-    alloc: Global,
-    endian: Option<Endianness>,
-) -> Result<MetadataV3, AllocError>
-    ensures { IfOk result (λ m. extension_view m ≡ extension_of_bytes endian) }
-{
-    let metadata = named(alloc, "bytes")?;
-    match endian {
-        None => Ok(metadata),
-        Some(Endianness::Little) => with_endian(alloc, metadata, "little"),
-        Some(Endianness::Big) => with_endian(alloc, metadata, "big"),
-    }
-}
-
-fn with_endian(alloc: Global, metadata: MetadataV3, endian: &str) -> Result<MetadataV3, AllocError>
-    ensures { IfOk result (λ m. extension_view m ≡ record (extension_view metadata) {
-      configuration = Some (put (codes "endian") (string endian.now) (settings (extension_view metadata)));
-    }) }
-{
-    metadata.with_member(alloc, "endian", Value::try_from_str(alloc, endian)?)
 }

@@ -17,8 +17,9 @@ ghost use Rattle.zarrs_codec_optional.specs.CellsCodecs.{optional_meaning_of, ma
 ghost use Rattle.zarrs_codec_optional.specs.Metadata.{extension_of_mask_codec, extension_of_cells_codec};
 ghost use Rattle.zarrs_codec_optional.specs.Optional.{if_any, behind_lengths, mask_and_data};
 
+use crate::bytes_metadata::bytes_metadata;
 use crate::codec::CellsCodec;
-use crate::metadata::{bytes_metadata, named, optional_metadata};
+use crate::metadata::{named, optional_metadata};
 use std::alloc::{AllocError, Global};
 use std::borrow::CowSlice;
 use zarrs_codec_leaf::{BytesCodec, CodecError, LeafCodec, Misfit, PackBitsCodec};

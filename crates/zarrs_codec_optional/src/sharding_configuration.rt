@@ -4,17 +4,17 @@ ghost use Rattle.std.specs.Int.NonZero.{non_zero_u64_get};
 ghost use Rattle.serde_json.specs.View.{view, items_view};
 ghost use Rattle.zarrs_metadata_parts.specs.Extension.{extension_data, extension_of, extension_view, settings};
 ghost use Rattle.zarrs_metadata_parts.specs.Lists.{all_of, list_data, list_of, number_data};
-ghost use Rattle.zarrs_codec_optional.specs.VlenMetadata.{is_little_bytes};
-ghost use Rattle.zarrs_codec_optional.specs.ShardingMetadata.{is_plain_index, location_said};
-ghost use Rattle.zarrs_codec_optional.specs.ShardingMetadata.{sharding_data, sharding_extension, size_said, sizes_of};
+ghost use Rattle.zarrs_codec_optional.specs.ShardingMetadata.{location_said, sharding_data};
+ghost use Rattle.zarrs_codec_optional.specs.ShardingMetadata.{sharding_extension, size_said, sizes_of};
 ghost use Rattle.zarrs_codec_optional.specs.ShardingViews.{sharding_view};
 
+use crate::bytes_metadata::{are_little_bytes, bytes_metadata};
 use crate::metadata::named;
-use crate::sole::{extension_from, list_of_one, sole_codec};
-use crate::vlen_metadata::{is_little_bytes, little_bytes};
+use crate::sole::{extension_from, list_of_one};
 use serde_json::Value;
 use std::alloc::{AllocError, Global};
 use std::num::NonZeroU64;
+use zarrs_codec_leaf::Endianness;
 use zarrs_metadata_parts::MetadataV3;
 
 /// What a configuration of `sharding_indexed` says.
@@ -44,7 +44,7 @@ pub fn sharding_parts(
     if !metadata.has_only(&["chunk_shape", "codecs", "index_codecs", "index_location"]) {
         return Ok(None);
     }
-    if !is_plain_index(metadata.member("index_codecs"))? {
+    if !are_little_bytes(metadata.member("index_codecs"))? {
         return Ok(None);
     }
     let Some(at_start) = location_from(metadata.member("index_location")) else {
@@ -61,17 +61,6 @@ pub fn sharding_parts(
         at_start,
         codecs,
     }))
-}
-
-/// Whether the index is encoded by `bytes`, little endian, alone.
-fn is_plain_index(value: Option<&Value>) -> Result<bool, AllocError>
-    ensures { IfOk result (λ is. is
-        ≡ is_plain_index (option_map (λ value. view value.now) value.entry)) }
-{
-    match sole_codec(value)? {
-        Some(codec) => Ok(is_little_bytes(&codec)),
-        None => Ok(false),
-    }
 }
 
 /// Whether the index stands before the subchunks, if the member says so or not.
@@ -165,11 +154,11 @@ pub fn sharding_metadata(
     })) }
 {
     let location = if at_start { "start" } else { "end" };
-    let index_codecs = list_of_one(alloc, &little_bytes(alloc)?)?;
+    let index_codec = bytes_metadata(alloc, Some(Endianness::Little))?;
     named(alloc, "sharding_indexed")?
         .with_member(alloc, "chunk_shape", sizes_value(alloc, subchunk_shape)?)?
         .with_member(alloc, "codecs", extensions_value(alloc, codecs)?)?
-        .with_member(alloc, "index_codecs", index_codecs)?
+        .with_member(alloc, "index_codecs", list_of_one(alloc, &index_codec)?)?
         .with_member(
             alloc,
             "index_location",

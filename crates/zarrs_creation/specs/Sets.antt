@@ -12,7 +12,8 @@ use Rattle.zarrs_data_type.specs.Same.{kind_eq, kind_eq-Decides}
 use Rattle.zarrs_codec_array.specs.Arrays.{Extent}
 use Rattle.zarrs_codec_array.specs.Configurations.{ArrayCodecData}
 use Rattle.zarrs_codec_leaf.specs.declared.bytes_codec.Endianness.{Endianness}
-use Rattle.zarrs_codec_optional.specs.Configurations.{MaskCodecData, CellsCodecData, bytes, packbits, vlen_utf8, vlen_bytes, vlen, optional}
+use Rattle.zarrs_codec_optional.specs.Configurations.{MaskCodecData, CellsCodecData, plain, optional}
+use Rattle.zarrs_codec_optional.specs.PlainCodecs.{PlainCodecData}
 use Rattle.zarrs_codec.specs.Configurations.{BytesCodecData, cells, sharding, ChainData}
 use Rattle.zarrs_creation.specs.Meanings.{Meaning}
 
@@ -45,38 +46,28 @@ Endianness-set = hlevel (props, ⊎_set)
 MaskCodecData-set : IsSet MaskCodecData
 MaskCodecData-set = hlevel (props, ⊎_set, Endianness-set)
 
+PlainCodecData-set : IsSet PlainCodecData
+PlainCodecData-set = hlevel (props, ⊎_set, Endianness-set)
+
 -- two codecs of cells have the same parts
 abbrev SameCells : CellsCodecData → CellsCodecData → Type 0
-SameCells (bytes a) (bytes b) = a ≡ b
-SameCells packbits packbits = Unit {0}
-SameCells vlen_utf8 vlen_utf8 = Unit {0}
-SameCells vlen_bytes vlen_bytes = Unit {0}
-SameCells vlen vlen = Unit {0}
+SameCells (plain a) (plain b) = a ≡ b
 SameCells (optional m a) (optional n b) = (m ≡ n) × SameCells a b
 SameCells _ _ = ⊥
 
 SameCells-prop : (a b : CellsCodecData) → IsProp (SameCells a b)
-SameCells-prop (bytes a) (bytes b) = hlevel (props, Endianness-set)
-SameCells-prop packbits packbits = hlevel
-SameCells-prop vlen_utf8 vlen_utf8 = hlevel
-SameCells-prop vlen_bytes vlen_bytes = hlevel
-SameCells-prop vlen vlen = hlevel
+SameCells-prop (plain a) (plain b) = PlainCodecData-set a b
 SameCells-prop (optional m a) (optional n b) = hlevel (MaskCodecData-set, SameCells-prop a b)
 SameCells-prop a b = hlevel
 
 same_cells : (a b : CellsCodecData) → SameCells a b → a ≡ b
-same_cells (bytes a) (bytes b) same = ap bytes same
-same_cells packbits packbits same = refl
-same_cells vlen_utf8 vlen_utf8 same = refl
-same_cells vlen_bytes vlen_bytes same = refl
-same_cells vlen vlen same = refl
+same_cells (plain a) (plain b) same = ap plain same
 same_cells (optional m a) (optional n b) same = λ i. optional (same.0 i) (same_cells a b same.1 i)
 same_cells a b same = absurd same
 
 own_cells : (a : CellsCodecData) → SameCells a a
-own_cells (bytes a) = refl
+own_cells (plain a) = refl
 own_cells (optional m a) = (refl, own_cells a)
-own_cells a = tt
 
 shared_cells : (a b : CellsCodecData) → a ≡ b → SameCells a b
 shared_cells a b p = subst (SameCells a) p (own_cells a)

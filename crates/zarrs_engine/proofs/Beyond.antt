@@ -18,7 +18,7 @@ use Rattle.zarrs_data_type.specs.Parts.{TakesCells}
 use Rattle.zarrs_engine_calls.specs.ArgumentRefusals.{size_refusal}
 use Rattle.zarrs_engine_calls.specs.Changes.{RetrievesChunk}
 use Rattle.zarrs_engine_calls.specs.Content.{value_at, content}
-use Rattle.zarrs_engine_calls.specs.Cuts.{is_below}
+use Rattle.zarrs_engine_calls.specs.Cuts.{beyond_box, is_below}
 use Rattle.zarrs_engine_calls.specs.Layout.{Layout}
 use Rattle.zarrs_engine_calls.specs.Refusals as refusal
 use Rattle.zarrs_engine_calls.specs.Refusals.{Refusal, RefusesBy, fill_refusal, is_too_large, refuse_if}
@@ -26,7 +26,6 @@ use Rattle.zarrs_engine_calls.specs.StateRefusals.{RefusesKeptCut}
 use Rattle.zarrs_engine_calls.proofs.Below.{along_below, below_along}
 use Rattle.zarrs_engine_calls.proofs.Contents.{fill_at, replicated}
 use Rattle.zarrs_engine_calls.proofs.RefusalLemmas.{memory_or_said, not_large, second_refusal, small_size}
-use Rattle.zarrs_engine_layout.specs.Beyond.{beyond_box}
 use Rattle.zarrs_engine_layout.specs.Steps.{filled_refusal}
 use Rattle.zarrs_engine.specs.Resizes.{HasCutCells, HasFilled, RefusesFilling}
 
@@ -140,12 +139,6 @@ module _ (box : Box) (shape : List ℕ) (k : ℕ) (long : IsLong box) (same : le
     | inl hit ↦ absurd (let past = gone_past position hit in omega arith)
   ]
 
-  pub cut_away : (position : List ℕ) → Holds gone position → is_below shape position ≡ false
-  cut_away position holds = elim (cases_Bool (is_below shape position)) [
-    | inr out ↦ out
-    | inl below ↦ absurd (let past = gone_past position holds in let less = (below_along shape position below).below k within in omega arith)
-  ]
-
   module _ (layout : Layout) (state : StoreState) where
     -- the fill is too large
     pub filling_fails : is_too_large layout box.shape ≡ false → (r : Refusal) → RefusesBy (filled_refusal layout gone.shape) r → RefusesFilling layout shape box r
@@ -156,7 +149,7 @@ module _ (box : Box) (shape : List ℕ) (k : ℕ) (long : IsLong box) (same : le
           let none : size_refusal layout gone.shape ≡ None = ap (λ b. cond b (Some refusal.size_overflow) None) small in
           let fill : fill_refusal layout gone.shape ≡ Some r = sym (second_refusal (size_refusal layout gone.shape) _ none) ∙ said in
           let is = only_size _ r fill in
-          subst (RefusesFilling layout shape box) is (record { gone = gone; long = gone_long; inside = gone_lies; cut_away = cut_away; large = fill ∙ ap Some (sym is) })
+          subst (RefusesFilling layout shape box) is (k, within, fill ∙ ap Some (sym is))
     ]
 
     -- the fill was put into the cells

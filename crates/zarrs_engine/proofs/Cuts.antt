@@ -19,6 +19,7 @@ use Rattle.zarrs_subset.proofs.Positions.{length-positions, positions_in, positi
 use Rattle.zarrs_chunk_grid.specs.Grids.{box_at, has_box}
 use Rattle.zarrs_chunk_grid.proofs.Chunks.{box_long}
 use Rattle.zarrs_storage.specs.Store.{StoreState}
+use Rattle.zarrs_storage.proofs.ValuesLemmas.{rules_of}
 use Rattle.zarrs_data_type.specs.Cell.{Cell}
 use Rattle.zarrs_data_type.specs.ArrayData.{ArrayData}
 use Rattle.zarrs_data_type.specs.Cells.{HasCells, cells}
@@ -348,7 +349,7 @@ module _ (layout : Layout) (lawful : IsLawful layout) (keep : Bool) (shape : Lis
       h.cuts.keys (layout.key index) (λ i early equal.
       let one = one_key layout lawful index i mine (index_list layout lawful i (h.cuts.boxed i early)) equal in
       not_yet range long n index at (subst (Contains (take n xs)) (sym one) (among_filtered test (take n xs) i early))) in
-      let here = may_ask_then layout index old mid h.makes.reach same (ask index (passes_at n index at holds_so) (subst (λ i. keeps_some layout.grid shape i ≡ true) is some)) in
+      let here = may_ask_then layout index old mid (rules_of old mid h.makes.reach) same (ask index (passes_at n index at holds_so) (subst (λ i. keeps_some layout.grid shape i ≡ true) is some)) in
       subst (λ i. MayAskChunk layout i mid) (sym is) here
 
 -- ---- a walk through the chunks that are cut

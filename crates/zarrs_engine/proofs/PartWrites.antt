@@ -145,7 +145,7 @@ module _ (layout : Layout) (lawful : IsLawful layout) (keep : Bool) (region : Bo
   fill_fails said (inl absent) =
       let filled = large_region layout (box_at layout.grid index) state (box_long layout.grid index) fit (λ position holds. absent_fill layout (value_at state) lawful index has absent position holds) said in
       (refl, inr (inl (part, inl filled)))
-  fill_fails said (inr needs) = (refl, inr (inl (part, inr (inl needs))))
+  fill_fails said (inr needs) = (refl, inr (inl (part, inr needs)))
 
   -- the chunk cannot be read
   pub read_fails : (r : Refusal) → RefusesChunkRead layout (length_refusal layout index) true index state r → RefusesPart layout keep region held index 0 state r

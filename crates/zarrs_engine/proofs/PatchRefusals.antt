@@ -1,11 +1,11 @@
 -- Why a part of a chunk is not written by itself.
-use Rattle.std.proofs.Common.{◌≡◌, ℕ, Bool, true, cond, not, List, Option, Some, None, refl, sym, ap, subst, ◌∙◌, inl, inr, arith}
+use Rattle.std.proofs.Common.{◌≡◌, ℕ, Bool, true, cond, List, [], ◌∷◌, Option, Some, None, refl, sym, ap, subst, ◌∙◌, inl, inr, arith}
 use Rattle.std.proofs.lemmas.Bool.{cases_Bool}
 use Rattle.zarrs_subset.specs.Regions.{Box, overlap_of}
 use Rattle.zarrs_subset.specs.Refusals.{RefusesLength}
 use Rattle.zarrs_subset.specs.declared.error.ArraySubsetError.{ArraySubsetError}
 use Rattle.zarrs_subset.specs.declared.error.ArraySubsetError.TheVariants as subset
-use Rattle.zarrs_chunk_grid.specs.Grids.{box_at, has_box}
+use Rattle.zarrs_chunk_grid.specs.Grids.{box_at}
 use Rattle.zarrs_storage.specs.Store.{StoreState, Values}
 use Rattle.zarrs_storage.specs.declared.error.StorageError.{StorageError}
 use Rattle.zarrs_storage.specs.declared.error.StorageError.TheVariants as stored
@@ -20,12 +20,12 @@ use Rattle.zarrs_engine_calls.specs.Errors.{error_of_subset}
 use Rattle.zarrs_engine_calls.specs.ChunkBoxes.{chunk_part}
 use Rattle.zarrs_engine_calls.specs.Refusals as refusal
 use Rattle.zarrs_engine_calls.specs.Refusals.{Refusal, RefusesBy, key_refusal, refusal_of, refusal_of_codec, refusal_of_storage}
-use Rattle.zarrs_engine_calls.specs.ArgumentRefusals.{chunk_refusal}
 use Rattle.zarrs_engine_calls.specs.StateRefusals.{RefusesErasure, RefusesPart}
 use Rattle.zarrs_engine_calls.specs.Patches.{IsEncodedAs, IsNotEncoded, RefusesPartOf, RefusesPartly}
-use Rattle.zarrs_engine_calls.proofs.RefusalLemmas.{makes_none, memory_or_said}
-use Rattle.zarrs_engine_layout.specs.Steps.{RefusesPut}
-use Rattle.zarrs_engine.specs.Patches.{LeavesPartly, LeavesPatch}
+use Rattle.zarrs_engine_calls.proofs.Contents.{only_member}
+use Rattle.zarrs_engine_calls.proofs.RefusalLemmas.{memory_or_said}
+use Rattle.zarrs_engine.specs.Patches.{LeavesPartly, LeavesPatch, RefusesPutPart}
+use Rattle.zarrs_engine_calls.proofs.PartCounts.{made_as, none_made, one_named}
 
 -- ---- only memory may be short
 
@@ -60,12 +60,6 @@ module _ (layout : Layout) (keep : Bool) (index : List ℕ) (part : Box) (held :
     ]
   ]
 
-  -- no memory for the box of the chunk
-  pub box_partly : (state : StoreState) (r : Refusal) → has_box layout.grid index ≡ true → RefusesBy (chunk_refusal layout index) r → RefusesPartly layout keep index part held 0 state r
-  box_partly state r has why =
-      let none : chunk_refusal layout index ≡ None = ap (λ b. cond (not b) (Some (refusal.indices index)) None) has in
-      subst (RefusesPartly layout keep index part held 0 state) (sym (only_memory (chunk_refusal layout index) r none why)) tt
-
   -- the part is not encoded
   pub encoded_partly : (state : StoreState) (r : Refusal)
       → IsNotEncoded layout keep (box_at layout.grid index).shape (value_at state (layout.key index)) part held r → RefusesPartly layout keep index part held 0 state r
@@ -93,18 +87,18 @@ module _ (layout : Layout) (keep : Bool) (index : List ℕ) (part : Box) (held :
     one = omega arith;
     counted = λ some. absurd (omega arith);
     values = refl;
-    makes = makes_none state;
+    makes = none_made (λ i. Unit {0}) (index ∷ []) state;
     cause = why;
   }
 
-  pub put_leaves_partly : (e : StorageError) (old new : StoreState) → IsEncodedAs layout keep index old part held → RefusesPut (refusal_of_storage e) old new
+  pub put_leaves_partly : (key : List ℕ) (e : StorageError) (old new : StoreState) → IsEncodedAs layout keep index old part held → RefusesPutPart key (refusal_of_storage e) old new
       → LeavesPartly layout keep index part held (refusal_of_storage e) old new
-  put_leaves_partly e old new is put = record {
+  put_leaves_partly key e old new is put = record {
     failed = put.failed;
     one = put.one;
     counted = put.counted;
     values = put.values;
-    makes = put.makes;
+    makes = one_named key index 0 put.failed old new put.makes;
     cause = erasure_partly e put.failed new
         (subst (λ (values : Values). IsEncodedAs layout keep index (record old { values = values }) part held) (sym put.values) is) put.cause;
   }
@@ -119,7 +113,7 @@ module _ (layout : Layout) (keep : Bool) (itself : List ℕ → Type 0) (region 
     one = omega arith;
     counted = λ some. absurd (omega arith);
     values = refl;
-    makes = makes_none state;
+    makes = none_made itself (index ∷ []) state;
     cause = record { whole = λ _. subst (RefusesPart layout keep region held index 0 state) (sym is) tt; partly = λ _. inl is };
   }
 
@@ -138,6 +132,6 @@ module _ (layout : Layout) (keep : Bool) (itself : List ℕ → Type 0) (region 
       one = l.one;
       counted = l.counted;
       values = l.values;
-      makes = l.makes;
+      makes = made_as (λ i. Unit {0}) itself (index ∷ []) 0 l.failed old new (λ i among _. subst itself (sym (only_member index i among)) is) l.makes;
       cause = record { whole = λ not. absurd (not is); partly = λ _. inr (partly_of l.failed new r l.cause) };
     }

@@ -19,14 +19,14 @@ use Rattle.zarrs_codec_shard.specs.PartialShards.{PartialChange, after, IsUpdate
 use Rattle.zarrs_codec_chain.specs.Chain.{chunk_cells, partial_encoding}
 use Rattle.zarrs_engine_calls.specs.Layout.{Layout, IsLawful}
 use Rattle.zarrs_engine_calls.specs.Content.{value_at, content, Reads}
-use Rattle.zarrs_engine_calls.specs.Changes.{IsPut}
 use Rattle.zarrs_engine_calls.specs.ChunkBoxes.{part_box}
 use Rattle.zarrs_engine_calls.specs.Patches.{HoldsPart, known_cells}
 use Rattle.zarrs_engine_calls.specs.ChunkBoxes.{chunk_part}
 use Rattle.zarrs_engine_calls.proofs.Contents.{only_member, reads_absent, reads_decoded}
 use Rattle.zarrs_engine_calls.proofs.Loops.{put_changes}
 use Rattle.zarrs_engine_layout.proofs.CutWalks.{number_is}
-use Rattle.zarrs_engine.specs.Patches.{PatchesChunk}
+use Rattle.zarrs_engine.specs.Patches.{PatchesChunk, PutsPart}
+use Rattle.zarrs_engine_calls.proofs.PartCounts.{one_named}
 
 -- ---- positions of a chunk, seen from its origin
 
@@ -179,7 +179,7 @@ module _ (layout : Layout) (lawful : IsLawful layout) (index : List ℕ) (has : 
       (part_long : IsLong part) (lies : LiesInShape part box.shape)
       (fits : HasCells layout.kind held (position_count part.shape)) (key_is : key ≡ layout.key index)
       (written : partial_encoding layout.chain keep layout.kind layout.fill box.shape (value_at old (layout.key index)) part held ≡ Some change)
-      (put : IsPut key (after change (value_at old key)) old new) where
+      (put : PutsPart key (after change (value_at old key)) old new) where
     same : length part.start ≡ length box.shape
     same = lies.same_length
 
@@ -236,7 +236,7 @@ module _ (layout : Layout) (lawful : IsLawful layout) (index : List ℕ) (has : 
               inside_some (known_cells layout index old) refl here position in_here;
         };
       };
-      makes = put.makes;
+      makes = one_named key index 1 0 old new put.makes;
     }
       where
         inside_some : (o : Option (List Cell)) → known_cells layout index old ≡ o → IsSome o → (position : List ℕ) → Holds box position

@@ -23,6 +23,7 @@ use Rattle.zarrs_engine_calls.specs.Patches.{HoldsPart, PatchesAll}
 use Rattle.zarrs_engine_calls.specs.ChunkBoxes.{chunk_part}
 use Rattle.zarrs_engine_calls.proofs.Contents.{member, only_member}
 use Rattle.zarrs_engine.specs.Patches.{LeavesPartly, LeavesPatch, PatchesChunk, Shares}
+use Rattle.zarrs_engine_calls.proofs.PartCounts.{made_as}
 use Rattle.zarrs_engine.proofs.PatchRefusals.{partly_leaves_patch}
 use Rattle.zarrs_engine.proofs.PatchedChunks.{overlap_inside}
 
@@ -155,7 +156,7 @@ module _ (region chunk : Box) (long : IsLong region) (chunk_long : IsLong chunk)
                     ∙ ap (λ b. cond b (cell_in region e.held position) (content layout (value_at old) position)) both;
               };
             };
-            makes = q.makes;
+            makes = made_as (λ i. Unit {0}) itself (index ∷ []) 1 0 old new (λ i among _. here i among) q.makes;
           }
         where
           here : (i : List ℕ) → Contains (index ∷ []) i → itself i

@@ -1,5 +1,5 @@
 -- Chunks of which parts are written by themselves, one after another.
-use Rattle.std.proofs.Common.{◌≡◌, ◌≢◌, ◌⊎◌, ℕ, ◌+◌, ◌<◌, ◌≤◌, Bool, true, false, cond, List, [], ◌∷◌, ◌++◌, length, take, slice_get, Option, Some, None, Contains, refl, sym, ap, subst, ◌∙◌, ◌&&◌, inl, inr, add-zero, zero-add, arith}
+use Rattle.std.proofs.Common.{◌≡◌, ◌≢◌, ◌⊎◌, ℕ, ◌+◌, ◌<◌, ◌≤◌, Bool, true, false, cond, List, [], ◌∷◌, ◌++◌, length, take, slice_get, Option, Some, None, Contains, refl, sym, ap, subst, ◌∙◌, ◌&&◌, inl, inr, add-zero, arith}
 use Rattle.std.specs.FinMap as map
 use Rattle.std.specs.Prelude.{IsSome, IsTrue, ◌↔◌}
 use Rattle.std.proofs.lemmas.Bool.{and_parts, cases_Bool, false≢true}
@@ -19,7 +19,7 @@ use Rattle.zarrs_engine_calls.specs.Layout.{Layout, IsLawful}
 use Rattle.zarrs_engine_calls.specs.Content.{value_at, content, chunk_cell}
 use Rattle.zarrs_engine_calls.specs.Refusals as refusal
 use Rattle.zarrs_engine_calls.specs.Refusals.{Refusal, RefusesBy, key_refusal}
-use Rattle.zarrs_engine_calls.specs.Changes.{HoldsValue, IsValueOf, Makes, Stores}
+use Rattle.zarrs_engine_calls.specs.Changes.{HoldsValue, IsValueOf, MakesParts, Stores}
 use Rattle.zarrs_engine_calls.specs.Fronts.{Front, StoresAll, Takes}
 use Rattle.zarrs_data_type.specs.Cells.{HasCells, cells}
 use Rattle.zarrs_engine_calls.specs.ArgumentRefusals.{box_data_refusal, chunk_refusal, part_refusal, store_part_refusal, store_region_refusal}
@@ -30,19 +30,20 @@ use Rattle.zarrs_engine_calls.specs.Patches.{EncodesPart, HoldsPart, IsEncoded, 
 use Rattle.zarrs_engine_calls.specs.Patches.{RefusesEncodePart, RefusesEncoding, RefusesItself, RefusesKey, RefusesPartly, RefusesPatches, RefusesPatchPart, RefusesPatchRegion}
 use Rattle.zarrs_engine_calls.proofs.Contents.{content_in_box, index_list, member, one_key, only_member}
 use Rattle.zarrs_engine_calls.proofs.Headline.{in_front}
-use Rattle.zarrs_engine_calls.proofs.RefusalLemmas.{makes_none, memory_or_said}
+use Rattle.zarrs_engine_calls.proofs.RefusalLemmas.{memory_or_said}
 use Rattle.zarrs_engine.specs.Patches.{HasPatched, LeavesPartly, LeavesPatch, PatchesChunk}
 use Rattle.zarrs_engine.specs.RegionWrites.{LeavesPart, StoresOneMore}
 use Rattle.zarrs_engine.proofs.PatchRefusals.{partly_of}
 use Rattle.zarrs_engine.proofs.PatchedChunks.{own_cells, own_part}
-use Rattle.zarrs_engine.proofs.Ranges.{makes_then, next_front}
+use Rattle.zarrs_engine_calls.proofs.PartCounts.{made_as, next_made, none_made, whole_made}
+use Rattle.zarrs_engine.proofs.Ranges.{next_front}
 use Rattle.zarrs_engine.proofs.RegionFronts.{may_ask_then, not_yet}
 use Rattle.zarrs_engine.proofs.RegionSteps.{at_among}
 use Rattle.zarrs_engine_layout.specs.Covers.{CoverRegion}
 use Rattle.zarrs_engine_calls.specs.Reach.{MayAskChunk, MayAskParts}
 use Rattle.zarrs_engine_calls.specs.ChunkBoxes.{chunk_part}
 use Rattle.zarrs_engine_calls.specs.StateRefusals.{IsPart, RefusesPart}
-use Rattle.zarrs_engine.proofs.Writes.{refused_early}
+use Rattle.zarrs_engine.proofs.Writes.{refused_before, refused_early}
 
 -- which chunks take their part by themselves may be said in other words
 takes_as : (layout : Layout) (keep : Bool) (a b : List ℕ → Type 0) (region : Box) (held : ArrayData) (chunks : List (List ℕ)) (old new : StoreState)
@@ -66,7 +67,7 @@ pub patches_as : (layout : Layout) (keep : Bool) (a b : List ℕ → Type 0) (re
     → PatchesAll layout keep a region held chunks old new → PatchesAll layout keep b region held chunks old new
 patches_as layout keep a b region held chunks old new to from p = record {
   takes = takes_as layout keep a b region held chunks old new to from p.takes;
-  makes = p.makes;
+  makes = made_as a b chunks (length chunks) 0 old new to p.makes;
 }
 
 pub refuses_as : (layout : Layout) (keep : Bool) (a b : List ℕ → Type 0) (first : Option Refusal) (region : Box) (held : ArrayData) (chunks : List (List ℕ)) (r : Refusal) (old new : StoreState)
@@ -79,7 +80,7 @@ refuses_as layout keep a b first region held chunks r old new to from s = record
     within = s.front.within;
     untouched = s.front.untouched;
     changes = λ some. takes_as layout keep a b region held (take s.done chunks) old new (λ i _. to i) (λ i _. from i) (s.front.changes some);
-    makes = s.front.makes;
+    makes = made_as a b chunks s.done s.failed old new (λ i _. to i) s.front.makes;
   };
   below = s.below;
   one = s.one;
@@ -154,14 +155,14 @@ module _ (layout : Layout) (lawful : IsLawful layout) where
         count = s.count;
         patches = stored_patches s.given (index ∷ []) old new (λ i among is. not (subst itself (only_member index i among) is)) s.stores;
       };
-      makes = s.makes;
+      makes = whole_made itself (index ∷ []) 1 0 old new s.makes;
     }
 
     -- a store of whole chunks is one that may write parts by themselves
     pub all_patched : (held : ArrayData) (chunks : List (List ℕ)) (old new : StoreState) → NoneItself chunks
         → StoresAll layout keep region held chunks old new → PatchesAll layout keep itself region held chunks old new
     all_patched held chunks old new none s =
-        record { takes = takes_patches held chunks old new none s.takes; makes = s.front.makes }
+        record { takes = takes_patches held chunks old new none s.takes; makes = whole_made itself chunks (length chunks) 0 old new s.front.makes }
 
     pub refused_patches : (first : Option Refusal) (held : ArrayData) (chunks : List (List ℕ)) (r : Refusal) (old new : StoreState) → (first ≡ None → NoneItself chunks)
         → RefusesStore layout keep first region held chunks r old new → RefusesPatches layout keep itself first region held chunks r old new
@@ -176,7 +177,7 @@ module _ (layout : Layout) (lawful : IsLawful layout) where
           | inr late ↦
               takes_patches held (take s.done chunks) old new (λ i among. none late.2.0 i (in_front s.done chunks i among)) (s.front.changes some)
         ];
-        makes = s.front.makes;
+        makes = whole_made itself chunks s.done s.failed old new s.front.makes;
       };
       below = s.below;
       one = s.one;
@@ -321,7 +322,7 @@ module _ (layout : Layout) (lawful : IsLawful layout) where
         partly = λ i among is. let b = among.1 in absurd (omega arith);
       };
       untouched = λ none. refl;
-      makes = makes_none state;
+      makes = none_made itself chunks state;
     }
 
     pub patched_more : (done : ℕ) (index : List ℕ) (old mid new : StoreState) → HasPatched layout keep itself region held chunks done old mid → slice_get chunks done ≡ Some index
@@ -337,7 +338,7 @@ module _ (layout : Layout) (lawful : IsLawful layout) where
           patches = subst (λ front. Patches layout keep itself region p.given front old new) (sym (next_front layout chunks done index at))
               (patches_push keep itself region p.given (take done chunks) index old mid new (not_yet range range_long done index at) p.patches next);
           untouched = λ none. absurd (omega arith);
-          makes = makes_then done 0 1 0 old mid new p.makes one.makes;
+          makes = next_made itself chunks done index 1 0 old mid new at (omega arith) p.makes one.makes;
         }
 
     pub patched_all : (done : ℕ) (old new : StoreState) → done ≡ length chunks → HasPatched layout keep itself region held chunks done old new → PatchesAll layout keep itself region held chunks old new
@@ -345,7 +346,7 @@ module _ (layout : Layout) (lawful : IsLawful layout) where
         let whole : take done chunks ≡ chunks = ap (λ n. take n chunks) all ∙ take_all (length chunks) chunks (omega arith) in
         record {
           takes = record { given = p.given; are_cells = p.are_cells; count = p.count; patches = subst (λ front. Patches layout keep itself region p.given front old new) whole p.patches };
-          makes = subst (λ n. Makes n 0 old new) all p.makes;
+          makes = subst (λ n. MakesParts itself chunks n 0 old new) all p.makes;
         }
 
     -- the next chunk is refused
@@ -354,29 +355,30 @@ module _ (layout : Layout) (lawful : IsLawful layout) where
         → RefusesPatches layout keep itself first region held chunks r old new
     patched_fails first done index r old mid new none p at l =
         let within = slice_get_within chunks done index at in
+        let made = next_made itself chunks done index 0 l.failed old mid new at (omega (arith, l.one)) p.makes l.makes in
         record {
           done = done;
           failed = l.failed;
-          front = patched_front done l.failed old mid new (omega (arith, within)) p l.values l.makes;
+          front = patched_front done l.failed old mid new (omega (arith, within)) p l.values (subst (λ n. MakesParts itself chunks n l.failed old new) (add-zero done) made);
           below = λ some. within;
           one = l.one;
           counted = l.counted;
           cause = inr (index, at, (none, l.cause));
         }
       where
-        patched_front : (done failed : ℕ) (old mid new : StoreState) → done ≤ length chunks → HasPatched layout keep itself region held chunks done old mid → new.values ≡ mid.values → Makes 0 failed mid new
-            → Front (λ indices. TakesPatches layout keep itself region held indices old new) chunks done failed old new
+        patched_front : (done failed : ℕ) (old mid new : StoreState) → done ≤ length chunks → HasPatched layout keep itself region held chunks done old mid → new.values ≡ mid.values → MakesParts itself chunks done failed old new
+            → Front (MakesParts itself chunks) (λ indices. TakesPatches layout keep itself region held indices old new) chunks done failed old new
         patched_front done failed old mid new within p same makes =
             record {
               within = within;
               untouched = λ none. same ∙ p.untouched none;
               changes = λ some. record { given = p.given; are_cells = p.are_cells; count = p.count; patches = patches_then keep itself region p.given (take done chunks) old mid new same p.patches };
-              makes = subst (λ n. Makes n failed old new) (add-zero done) (subst (λ n. Makes (done + 0) n old new) (zero-add failed) (makes_then done 0 0 failed old mid new p.makes makes));
+              makes = makes;
             }
 
     -- out of memory before the first chunk
     pub patched_short : (first : Option Refusal) (state : StoreState) → RefusesPatches layout keep itself first region held chunks refusal.out_of_memory state state
-    patched_short first state = refused_early _ chunks _ _ state tt
+    patched_short first state = refused_before _ chunks _ _ state (none_made itself chunks state) tt
 
 -- a chunk that is stored whole was refused
 pub leaves_patch : (layout : Layout) (keep : Bool) (itself : List ℕ → Type 0) (region : Box) (held : ArrayData) (index : List ℕ) (r : Refusal) (old new : StoreState) → (itself index → ⊥)
@@ -386,7 +388,7 @@ leaves_patch layout keep itself region held index r old new not l = record {
   one = l.one;
   counted = l.counted;
   values = l.values;
-  makes = l.makes;
+  makes = whole_made itself (index ∷ []) 0 l.failed old new l.makes;
   cause = record { whole = λ _. l.cause; partly = λ is. absurd (not is) };
 }
 
@@ -402,7 +404,7 @@ patched_ask layout lawful keep itself region held range long cover old mid ask d
     p.patches.keys (layout.key index) (λ i early equal.
     let one = one_key layout lawful index i mine (index_list layout lawful i (p.patches.boxed i early)) equal in
     not_yet range long done index at (subst (Contains (take done (positions range))) (sym one) early)) in
-    let here = may_ask_then layout index old mid p.makes.reach same (ask index among (subst (IsPart layout region) is part)) in
+    let here = may_ask_then layout index old mid p.makes.rules same (ask index among (subst (IsPart layout region) is part)) in
     subst (λ i. MayAskChunk layout i mid) (sym is) here
 
 -- a part of one chunk, from what the steps of the call leave
@@ -422,6 +424,9 @@ module _ (layout : Layout) (lawful : IsLawful layout) (index : List ℕ) (part c
         patches_as layout keep (λ i. Unit {0}) itself here held (index ∷ []) old new
         (λ i among _. subst itself (sym (only_member index i among)) is) (λ i among _. tt) p
 
+    made_itself : (failed : ℕ) → MakesParts (λ i. Unit {0}) (index ∷ []) 0 failed old new → MakesParts itself (index ∷ []) 0 failed old new
+    made_itself failed m = made_as (λ i. Unit {0}) itself (index ∷ []) 0 failed old new (λ i among _. subst itself (sym (only_member index i among)) is) m
+
     partly_left : LiesInShape part (box_at layout.grid index).shape → HasCells layout.kind held (position_count part.shape)
         → (failed : ℕ) (state : StoreState) (r : Refusal) → RefusesPartly layout keep index part held failed state r → RefusesItself layout keep here held index failed state r
     partly_left lies given failed state r why =
@@ -439,7 +444,7 @@ module _ (layout : Layout) (lawful : IsLawful layout) (index : List ℕ) (part c
     patched_left lies given r l = record {
       done = 0;
       failed = l.failed;
-      front = record { within = omega arith; untouched = λ none. l.values; changes = λ some. absurd (omega arith); makes = l.makes };
+      front = record { within = omega arith; untouched = λ none. l.values; changes = λ some. absurd (omega arith); makes = made_itself keep (IsPatched layout asked here old) is l.failed l.makes };
       below = λ some. some;
       one = l.one;
       counted = l.counted;
@@ -461,7 +466,7 @@ module _ (layout : Layout) (lawful : IsLawful layout) (index : List ℕ) (part c
     pub encoded_part : IsEncoded layout old index → PatchesChunk layout keep index part held old new → EncodesPart layout keep index part held old new
     encoded_part is p = (accepted, patched_itself keep (IsEncoded layout old) is p)
 
-    encoding_left : (failed : ℕ) (r : Refusal) → failed ≤ 1 → (0 < failed → new.calls ≢ last_call + 1) → new.values ≡ old.values → Makes 0 failed old new
+    encoding_left : (failed : ℕ) (r : Refusal) → failed ≤ 1 → (0 < failed → new.calls ≢ last_call + 1) → new.values ≡ old.values → MakesParts (IsEncoded layout old) (index ∷ []) 0 failed old new
         → RefusesEncoding layout keep (IsEncoded layout old) here held index failed new r → RefusesEncodePart layout keep index part held r old new
     encoding_left failed r one counted values makes why = record {
       done = 0;
@@ -476,7 +481,7 @@ module _ (layout : Layout) (lawful : IsLawful layout) (index : List ℕ) (part c
     pub encoded_left : IsEncoded layout old index → LiesInShape part (box_at layout.grid index).shape → HasCells layout.kind held (position_count part.shape) → (r : Refusal)
         → LeavesPartly layout keep index part held r old new → RefusesEncodePart layout keep index part held r old new
     encoded_left is lies given r l =
-        encoding_left l.failed r l.one l.counted l.values l.makes
+        encoding_left l.failed r l.one l.counted l.values (made_itself keep (IsEncoded layout old) is l.failed l.makes)
         (record { whole = λ not. absurd (not is); partly = λ _. partly_left keep (IsEncoded layout old) is lies given l.failed new r l.cause })
 
     -- which stores the chunk whole
@@ -487,7 +492,8 @@ module _ (layout : Layout) (lawful : IsLawful layout) (index : List ℕ) (part c
 
       pub whole_left : (r : Refusal) → LeavesPart layout keep here held index r old new → RefusesEncodePart layout keep index part held r old new
       whole_left r l =
-          encoding_left l.failed r l.one l.counted l.values l.makes (record { whole = λ _. inl l.cause; partly = λ is. absurd (not is) })
+          encoding_left l.failed r l.one l.counted l.values (whole_made (IsEncoded layout old) (index ∷ []) 0 l.failed old new l.makes)
+          (record { whole = λ _. inl l.cause; partly = λ is. absurd (not is) })
 
 -- the key of the chunk refuses to be read
 module _ (layout : Layout) (keep : Bool) (index : List ℕ) (part : Box) (held : ArrayData) (state : StoreState) (accepted : store_part_refusal layout index part held ≡ None)
@@ -496,7 +502,7 @@ module _ (layout : Layout) (keep : Bool) (index : List ℕ) (part : Box) (held :
   key_left r why = record {
     done = 0;
     failed = 0;
-    front = record { within = omega arith; untouched = λ none. refl; changes = λ some. absurd (omega arith); makes = makes_none state };
+    front = record { within = omega arith; untouched = λ none. refl; changes = λ some. absurd (omega arith); makes = none_made (IsEncoded layout state) (index ∷ []) state };
     below = λ some. some;
     one = omega arith;
     counted = λ some. absurd (omega arith);
@@ -519,11 +525,11 @@ module _ (layout : Layout) (keep : Bool) (index : List ℕ) (part : Box) (held :
 
 pub patch_early : (layout : Layout) (keep asked : Bool) (index : List ℕ) (part : Box) (held : ArrayData) (r : Refusal) (state : StoreState)
     → RefusesBy (store_part_refusal layout index part held) r → RefusesPatchPart layout keep asked index part held r state state
-patch_early layout keep asked index part held r state why = refused_early _ _ _ _ state why
+patch_early layout keep asked index part held r state why = refused_before _ _ _ _ state (none_made _ _ state) why
 
 pub encode_early : (layout : Layout) (keep : Bool) (index : List ℕ) (part : Box) (held : ArrayData) (r : Refusal) (state : StoreState)
     → RefusesBy (store_part_refusal layout index part held) r → RefusesEncodePart layout keep index part held r state state
-encode_early layout keep index part held r state why = refused_early _ _ _ _ state why
+encode_early layout keep index part held r state why = refused_before _ _ _ _ state (none_made _ _ state) why
 
 pub region_early : (layout : Layout) (keep : Bool) (shape : List ℕ) (region : Box) (held : ArrayData) (r : Refusal) (state : StoreState)
     → RefusesBy (store_region_refusal layout shape region held) r → RefusesStoreRegion layout keep shape region held r state state
@@ -531,4 +537,4 @@ region_early layout keep shape region held r state why = refused_early _ _ _ _ s
 
 pub region_patch_early : (layout : Layout) (keep asked : Bool) (shape : List ℕ) (region : Box) (held : ArrayData) (r : Refusal) (state : StoreState)
     → RefusesBy (store_region_refusal layout shape region held) r → RefusesPatchRegion layout keep asked shape region held r state state
-region_patch_early layout keep asked shape region held r state why = refused_early _ _ _ _ state why
+region_patch_early layout keep asked shape region held r state why = refused_before _ _ _ _ state (none_made _ _ state) why

@@ -3,6 +3,7 @@ use Rattle.std.proofs.Common.{Result, Ok, Err, OnOk, IfErr, ◌≡◌, ℕ, Bool
 use Rattle.zarrs_subset.specs.Regions.{box_of}
 use Rattle.zarrs_chunk_grid.specs.Grids.{box_at}
 use Rattle.zarrs_storage.specs.Store.{StoreState, KeepsRules}
+use Rattle.zarrs_storage.proofs.ValuesLemmas.{rules_of}
 use Rattle.zarrs_data_type.specs.ArrayData.{data_of}
 use Rattle.zarrs_codec_chain.specs.Options.{encodes_partially, stores_empty_chunks}
 use Rattle.zarrs_codec_chain.specs.declared.options.CodecOptions.{CodecOptions}
@@ -96,16 +97,16 @@ steps_as layout lawful options call reply old new whole s = record {
 -- what may be asked stays
 patch_act_reach : (layout : Layout) (keep asked : Bool) (shape : List ℕ) (first : Option Refusal) (act : Act) (reply : Reply) (old new : StoreState)
     → PatchActStep layout keep asked shape first act reply old new → KeepsRules old new
-patch_act_reach layout keep asked shape first (store region held chunks) Done old new s = s.1.makes.reach
-patch_act_reach layout keep asked shape first (store region held chunks) (Refused e) old new s = s.front.makes.reach
+patch_act_reach layout keep asked shape first (store region held chunks) Done old new s = s.1.makes.rules
+patch_act_reach layout keep asked shape first (store region held chunks) (Refused e) old new s = s.front.makes.rules
 patch_act_reach layout keep asked shape first (store region held chunks) (Compacted answer) old new s = absurd s
 patch_act_reach layout keep asked shape first (store region held chunks) (Cells found) old new s = absurd s
 patch_act_reach layout keep asked shape first (store region held chunks) (MaybeCells found) old new s = absurd s
-patch_act_reach layout keep asked shape first (erase chunks) reply old new s = act_reach layout keep shape first (erase chunks) reply old new s
-patch_act_reach layout keep asked shape first (compact index) reply old new s = act_reach layout keep shape first (compact index) reply old new s
-patch_act_reach layout keep asked shape first (read region chunks) reply old new s = act_reach layout keep shape first (read region chunks) reply old new s
-patch_act_reach layout keep asked shape first (read_chunk needed index) reply old new s = act_reach layout keep shape first (read_chunk needed index) reply old new s
-patch_act_reach layout keep asked shape first (resize wanted) reply old new s = act_reach layout keep shape first (resize wanted) reply old new s
+patch_act_reach layout keep asked shape first (erase chunks) reply old new s = rules_of old new (act_reach layout keep shape first (erase chunks) reply old new s)
+patch_act_reach layout keep asked shape first (compact index) reply old new s = rules_of old new (act_reach layout keep shape first (compact index) reply old new s)
+patch_act_reach layout keep asked shape first (read region chunks) reply old new s = rules_of old new (act_reach layout keep shape first (read region chunks) reply old new s)
+patch_act_reach layout keep asked shape first (read_chunk needed index) reply old new s = rules_of old new (act_reach layout keep shape first (read_chunk needed index) reply old new s)
+patch_act_reach layout keep asked shape first (resize wanted) reply old new s = rules_of old new (act_reach layout keep shape first (resize wanted) reply old new s)
 
 pub patch_reach : (layout : Layout) (keep asked : Bool) (call : Call) (reply : Reply) (old new : ArrayState) → PatchStep layout keep asked call reply old new → KeepsRules old.store new.store
 patch_reach layout keep asked call reply old new s =

@@ -1,5 +1,5 @@
 -- One writing call of the store.
-use Rattle.std.proofs.Common.{Result, Ok, Err, IfErr, OnErr, ◌≡◌, ◌≢◌, ◌+◌, bytes_eq, ℕ, ◌==◌, true, false, cond, List, Some}
+use Rattle.std.proofs.Common.{Result, Ok, Err, IfErr, OnErr, ◌≡◌, ◌≢◌, ◌+◌, ◌≤◌, bytes_eq, ℕ, zero, suc, ◌==◌, true, false, cond, List, [], ◌∷◌, take, Option, Some}
 use Rattle.std.proofs.Common.{None, refl, sym, ◌∙◌, ap, arith, inl, inr, ◌⊎◌}
 use Rattle.std.specs.FinMap as map
 use Rattle.std.proofs.lemmas.Slice.Eq.{bytes_eq-Decides}
@@ -7,13 +7,15 @@ use Rattle.std.proofs.lemmas.Bool.{cases_Bool, eqb-true, eq-eqb}
 use Rattle.zarrs_storage.specs.Store.{StoreState, Values, Accepts, AcceptsPartial, Refuses, RefusesPartial, last_call, counted}
 use Rattle.zarrs_storage.specs.declared.error.StorageError.{StorageError}
 use Rattle.zarrs_storage.specs.declared.error.StorageError.TheVariants as stored
-use Rattle.zarrs_storage.proofs.ValuesLemmas.{get_inserted, get_removed, rules_of}
-use Rattle.zarrs_engine_calls.specs.Changes.{Makes, IsPut}
+use Rattle.zarrs_storage.proofs.ValuesLemmas.{get_inserted, get_removed}
+use Rattle.zarrs_engine_calls.specs.Changes.{CountsParts, Makes, IsPut, Puts}
 use Rattle.zarrs_engine_calls.specs.Refusals as refusal
 use Rattle.zarrs_engine_calls.specs.Refusals.{Refusal, refusal_of_storage}
 use Rattle.zarrs_engine_calls.specs.StateRefusals.{RefusesErasure, CallFails}
 use Rattle.zarrs_engine_calls.proofs.RefusalLemmas.{makes_none}
-use Rattle.zarrs_engine_layout.specs.Steps.{RefusesPut}
+use Rattle.zarrs_engine_layout.specs.Steps.{LeavesValues, RefusesPut}
+use Rattle.zarrs_engine.specs.Patches.{PutsPart, RefusesPutPart}
+use Rattle.zarrs_engine_calls.proofs.PartCounts.{whole_made}
 
 apart_test : (a b : List ℕ) → a ≢ b → bytes_eq a b ≡ false
 apart_test a b apart = elim (cases_Bool (bytes_eq a b)) [
@@ -23,10 +25,10 @@ apart_test a b apart = elim (cases_Bool (bytes_eq a b)) [
 
 -- an accepted call is one that makes one writing call
 accepts_makes : (old new : StoreState) (written : Values) → Accepts old new written → Makes 1 0 old new
-accepts_makes old new written a = record { calls = omega (arith, a.calls); failures = omega (arith, a.failures); reach = rules_of old new a.reach }
+accepts_makes old new written a = record { calls = omega (arith, a.calls); failures = omega (arith, a.failures); reach = a.reach }
 
 -- a value was put at the key by one writing call
-put_value : (key value : List ℕ) (old new : StoreState) → new.values ≡ map.insert old.values key value → Makes 1 0 old new → IsPut key (Some value) old new
+put_value : {made : ℕ → ℕ → StoreState → StoreState → Type 0} → (key value : List ℕ) (old new : StoreState) → new.values ≡ map.insert old.values key value → made 1 0 old new → Puts made key (Some value) old new
 put_value key value old new values made = record {
   held = ap (λ m. map.get m key) values ∙ get_inserted old.values key value key ∙ ap (λ b. cond b (Some value) (map.get old.values key)) ((bytes_eq-Decides key key).1 refl);
   others = λ other apart. ap (λ m. map.get m other) values ∙ get_inserted old.values key value other ∙ ap (λ b. cond b (Some value) (map.get old.values other)) (apart_test other key apart);
@@ -36,8 +38,9 @@ put_value key value old new values made = record {
 pub put_set : (key value : List ℕ) (old new : StoreState) → Accepts old new (map.insert old.values key value) → IsPut key (Some value) old new
 put_set key value old new a = put_value key value old new a.values (accepts_makes old new _ a)
 
-pub put_partial : (key value : List ℕ) (old new : StoreState) → AcceptsPartial old new (map.insert old.values key value) → IsPut key (Some value) old new
-put_partial key value old new a = put_value key value old new a.values (record { calls = omega (arith, a.calls); failures = omega (arith, a.failures); reach = a.rules })
+pub put_partial : (key value : List ℕ) (old new : StoreState) → AcceptsPartial old new (map.insert old.values key value) → PutsPart key (Some value) old new
+put_partial key value old new a =
+    put_value key value old new a.values (record { calls = omega (arith, a.calls); failures = omega (arith, a.failures); rules = a.rules; parts = inr (tt, a.parts) })
 
 pub put_erase : (key : List ℕ) (old new : StoreState) → Accepts old new (map.remove old.values key) → IsPut key None old new
 put_erase key old new a = record {
@@ -65,9 +68,23 @@ counted_or_last s = elim (cases_Bool (s.calls == last_call)) [
   | inr more ↦ inl (ap (λ b. cond b 0 1) more, λ same. (let clash : true ≡ false = sym (eq_last s.calls same) ∙ more in cc))
 ]
 
+-- a call of a whole value is one that may be of a part
+pub puts_part : (key : List ℕ) (value : Option (List ℕ)) (old new : StoreState) → IsPut key value old new → PutsPart key value old new
+puts_part key value old new p = record { held = p.held; others = p.others; makes = whole_made (λ k. Unit {0}) (key ∷ []) 1 0 old new p.makes }
+
+pub refuses_put_part : (key : List ℕ) (r : Refusal) (old new : StoreState) → RefusesPut r old new → RefusesPutPart key r old new
+refuses_put_part key r old new p = record {
+  failed = p.failed;
+  one = p.one;
+  counted = p.counted;
+  values = p.values;
+  makes = whole_made (λ k. Unit {0}) (key ∷ []) 0 p.failed old new p.makes;
+  cause = p.cause;
+}
+
 -- a writing call was refused, and counted if one was left
-refused_call : (e : StorageError) (old new : StoreState) → new.values ≡ old.values → new.calls ≡ old.calls + counted old → Makes 0 (counted old) old new
-    → RefusesPut (refusal_of_storage e) old new
+refused_call : {made : ℕ → ℕ → StoreState → StoreState → Type 0} → (e : StorageError) (old new : StoreState) → new.values ≡ old.values → new.calls ≡ old.calls + counted old → made 0 (counted old) old new
+    → LeavesValues made (λ failed state. RefusesErasure failed state (refusal_of_storage e)) old new
 refused_call e old new values calls made = record {
   failed = counted old;
   one = elim (counted_or_last old) [ inl one ↦ (let a = one.0 in omega arith) | inr none ↦ (let a = none.0 in omega arith) ];
@@ -85,10 +102,19 @@ refused_call e old new values calls made = record {
 
 -- the store refused a writing call
 pub put_refused : (e : StorageError) (old new : StoreState) → Refuses old new → RefusesPut (refusal_of_storage e) old new
-put_refused e old new r = refused_call e old new r.values r.calls (record { calls = (let a = r.calls in omega arith); failures = r.failures; reach = rules_of old new r.reach })
+put_refused e old new r = refused_call e old new r.values r.calls (record { calls = (let a = r.calls in omega arith); failures = r.failures; reach = r.reach })
 
-pub partial_refused : (e : StorageError) (old new : StoreState) → RefusesPartial old new → RefusesPut (refusal_of_storage e) old new
-partial_refused e old new r = refused_call e old new r.values r.calls (record { calls = (let a = r.calls in omega arith); failures = r.failures; reach = r.rules })
+-- a refused call of a part counts for one, if it is counted
+part_counted : (key : List ℕ) (n before after : ℕ) → n ≤ 1 → after ≡ before + n → CountsParts (λ k. Unit {0}) (take (0 + n) (key ∷ [])) before after
+part_counted key zero before after one is = let same : after ≡ before = omega arith in same
+part_counted key (suc zero) before after one is = inr (tt, is)
+part_counted key (suc (suc n)) before after one is = absurd (omega arith)
+
+pub partial_refused : (key : List ℕ) (e : StorageError) (old new : StoreState) → RefusesPartial old new → RefusesPutPart key (refusal_of_storage e) old new
+partial_refused key e old new r =
+    let one : counted old ≤ 1 = elim (counted_or_last old) [ inl one ↦ (let a = one.0 in omega arith) | inr none ↦ (let a = none.0 in omega arith) ] in
+    refused_call e old new r.values r.calls
+    (record { calls = (let a = r.calls in omega arith); failures = r.failures; rules = r.rules; parts = part_counted key (counted old) old.parts new.parts one r.parts })
 
 -- out of memory before any call
 pub put_short : (state : StoreState) → RefusesPut refusal.out_of_memory state state

@@ -7,6 +7,7 @@ use Rattle.zarrs_subset.specs.Regions.{Box, IsLong, positions}
 use Rattle.zarrs_subset.proofs.Bytes.{holds_along}
 use Rattle.zarrs_subset.proofs.Positions.{positions_in}
 use Rattle.zarrs_storage.specs.Store.{StoreState}
+use Rattle.zarrs_storage.proofs.ValuesLemmas.{reach_on}
 use Rattle.zarrs_engine_calls.specs.Layout.{Layout, IsLawful}
 use Rattle.zarrs_engine_calls.specs.Refusals as refusal
 use Rattle.zarrs_engine_calls.specs.Refusals.{Refusal, RefusesBy, length_refusal}
@@ -17,7 +18,6 @@ use Rattle.zarrs_engine_calls.specs.Step.{ErasesChunk, RefusesEraseChunk, Refuse
 use Rattle.zarrs_engine.proofs.Writes.{refused_early}
 use Rattle.zarrs_engine_calls.proofs.Loops.{erases_push, erases_all}
 use Rattle.zarrs_engine_calls.proofs.RefusalLemmas.{makes_none, memory_or_said}
-use Rattle.zarrs_engine_calls.proofs.Runs.{reach_then}
 
 -- none is gone yet
 erases_none : (layout : Layout) (state : StoreState) → Erases layout [] state state
@@ -41,7 +41,7 @@ pub makes_then : (a b c d : ℕ) (old mid new : StoreState) → Makes a b old mi
 makes_then a b c d old mid new p q = record {
   calls = let x = p.calls in let y = q.calls in omega arith;
   failures = let x = p.failures in let y = q.failures in omega arith;
-  reach = reach_then old mid new p.reach q.reach;
+  reach = reach_on old mid new p.reach q.reach;
 }
 
 -- the first `done` chunks are gone, each by one writing call
@@ -73,7 +73,7 @@ module _ (layout : Layout) (chunks : List (List ℕ)) where
   gone_all done old new all g =
       let whole : take done chunks ≡ chunks = ap (λ n. take n chunks) all ∙ take_all (length chunks) chunks (omega arith) in
       let erases = subst (λ front. Erases layout front old new) whole g.erases in
-      let front : Front (λ indices. Erases layout indices old new) chunks (length chunks) 0 old new = record {
+      let front : Front Makes (λ indices. Erases layout indices old new) chunks (length chunks) 0 old new = record {
         within = omega arith;
         untouched = λ none. g.untouched (all ∙ none);
         changes = λ some. subst (λ front. Erases layout front old new) (sym (take_all (length chunks) chunks (omega arith))) erases;

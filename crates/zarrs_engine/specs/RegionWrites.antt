@@ -42,4 +42,4 @@ pub record StoresOneMore (layout : Layout) (keep : Bool) (region : Box) (held : 
 
 -- one chunk did not take its part
 abbrev pub LeavesPart : Layout → (keep : Bool) → Box → ArrayData → (index : List ℕ) → Refusal → StoreState → StoreState → Type 0
-LeavesPart layout keep region held index r old new = LeavesValues (λ failed state. RefusesPart layout keep region held index failed state r) old new
+LeavesPart layout keep region held index r old new = LeavesValues Makes (λ failed state. RefusesPart layout keep region held index failed state r) old new

@@ -24,7 +24,7 @@ use Rattle.zarrs_engine_calls.specs.Layout.{ArrayState, Layout, IsLawful}
 use Rattle.zarrs_engine_calls.specs.Content.{value_at, content, chunk_cell}
 use Rattle.zarrs_engine_calls.specs.Refusals as refusal
 use Rattle.zarrs_engine_calls.specs.Refusals.{Refusal, RefusesBy, box_refusal, length_refusal}
-use Rattle.zarrs_engine_calls.specs.Changes.{ChangesKeysOf, Erases, IsValueOf}
+use Rattle.zarrs_engine_calls.specs.Changes.{ChangesKeysOf, Erases, IsValueOf, Makes}
 use Rattle.zarrs_engine_calls.specs.ChunkBoxes.{chunks_met, is_empty, is_part_of, last_of, part_box}
 use Rattle.zarrs_engine_calls.specs.Cuts.{Cuts, cut_chunks, is_below, is_cut, keeps_some}
 use Rattle.zarrs_engine_calls.proofs.Below.{cut_right}
@@ -130,13 +130,13 @@ module _ (layout : Layout) (was_a now_a was_b : StoreState) where
     refuses = now_a.refuses;
   }
 
-  front_copied : (changed_a changed_b : List (List ℕ) → Type 0) (chunks : List (List ℕ)) (done failed : ℕ) → Front changed_a chunks done failed was_a now_a
-      → (changed_a (take done chunks) → changed_b (take done chunks)) → Front changed_b chunks done failed was_b (now_b chunks done failed)
+  front_copied : (changed_a changed_b : List (List ℕ) → Type 0) (chunks : List (List ℕ)) (done failed : ℕ) → Front Makes changed_a chunks done failed was_a now_a
+      → (changed_a (take done chunks) → changed_b (take done chunks)) → Front Makes changed_b chunks done failed was_b (now_b chunks done failed)
   front_copied changed_a changed_b chunks done failed front step = record {
     within = front.within;
     untouched = λ none. ap (λ n. copied layout.key (value_at now_a) (take n chunks) was_b.values) none;
     changes = λ some. step (front.changes some);
-    makes = record { calls = refl; failures = refl; reach = record { may_ask = λ key. refl; may_read = λ key place. refl; sets_parts = refl; lenders = refl } };
+    makes = record { calls = refl; failures = refl; reach = record { may_ask = λ key. refl; may_read = λ key place. refl; sets_parts = refl; lenders = refl; parts = refl } };
   }
 
   copied_alike : (chunks : List (List ℕ)) (done failed : ℕ) → ChangesKeysOf layout (take done chunks) was_a now_a → SameOrKept was_a was_b now_a (now_b chunks done failed)
@@ -308,8 +308,7 @@ module _ (layout : Layout) (lawful : IsLawful layout) (keep : Bool) (region : Bo
   part_late refusal.codec (none, small, inr such) = (none, small, inr (refused_as (Some refusal.codec) such))
   part_late refusal.size_overflow (none, inl large) = (none, inl large)
   part_late refusal.size_overflow (none, inr (inl (part, inl large))) = (none, inr (inl (part, inl (large_box layout lawful x y index (same part) has large))))
-  part_late refusal.size_overflow (none, inr (inl (part, inr (inl fill)))) = (none, inr (inl (part, inr (inl (large_fill layout lawful x y index (same part) fill)))))
-  part_late refusal.size_overflow (none, inr (inl (part, inr (inr chunk)))) = (none, inr (inl (part, inr (inr (chunk.0, updated chunk.0 chunk.1, chunk.2)))))
+  part_late refusal.size_overflow (none, inr (inl (part, inr fill))) = (none, inr (inl (part, inr (large_fill layout lawful x y index (same part) fill))))
   part_late refusal.size_overflow (none, inr (inr such)) = (none, inr (inr (refused_as (Some refusal.size_overflow) such)))
   part_late refusal.out_of_memory why = why
   part_late r why = absurd why
@@ -337,14 +336,14 @@ module _ (layout : Layout) (lawful : IsLawful layout) (keep : Bool) (chunks : Li
   all_elsewhere key apart = elsewhere (length chunks) 0 key (λ i among. apart i (subst (λ (l : List (List ℕ)). Contains l i) (take-length chunks) among))
 
   -- the other store has made as many writing calls
-  same_calls : (changed : List (List ℕ) → Type 0) (done failed : ℕ) → Front changed chunks done failed a now_a → (after_b done failed).calls ≡ now_a.calls
+  same_calls : (changed : List (List ℕ) → Type 0) (done failed : ℕ) → Front Makes changed chunks done failed a now_a → (after_b done failed).calls ≡ now_a.calls
   same_calls changed done failed front = ap (λ n. n + done + failed) calls ∙ sym front.makes.calls
 
   abbrev Other : (StoreState → Type 0) → Type 0
   Other P = (new : StoreState) × P new × AreChangedAlike a b now_a new
 
-  erase_front : (done failed : ℕ) → Front (λ indices. Erases layout indices a now_a) chunks done failed a now_a
-      → Front (λ indices. Erases layout indices b (after_b done failed)) chunks done failed b (after_b done failed)
+  erase_front : (done failed : ℕ) → Front Makes (λ indices. Erases layout indices a now_a) chunks done failed a now_a
+      → Front Makes (λ indices. Erases layout indices b (after_b done failed)) chunks done failed b (after_b done failed)
   erase_front done failed front =
       front_copied layout a now_a b (λ indices. Erases layout indices a now_a) (λ indices. Erases layout indices b (after_b done failed)) chunks done failed front
       (λ e. erases_copied layout lawful a now_a b (after_b done failed) (take done chunks) (here done failed) (elsewhere done failed) e)
@@ -400,14 +399,14 @@ module _ (layout : Layout) (lawful : IsLawful layout) (keep : Bool) (chunks : Li
     take_front : (done failed : ℕ)
         → ((index : List ℕ) → Contains (take done chunks) index → has_box layout.grid index ≡ true → IsPart layout region index
         → value_at b (layout.key index) ≡ value_at a (layout.key index))
-        → Front (λ indices. Takes layout keep region held indices a now_a) chunks done failed a now_a
-        → Front (λ indices. Takes layout keep region held indices b (after_b done failed)) chunks done failed b (after_b done failed)
+        → Front Makes (λ indices. Takes layout keep region held indices a now_a) chunks done failed a now_a
+        → Front Makes (λ indices. Takes layout keep region held indices b (after_b done failed)) chunks done failed b (after_b done failed)
     take_front done failed agree front =
         front_copied layout a now_a b (λ indices. Takes layout keep region held indices a now_a) (λ indices. Takes layout keep region held indices b (after_b done failed)) chunks done failed front
         (λ t. takes_copied layout lawful a now_a b (after_b done failed) (take done chunks) (here done failed) (elsewhere done failed) keep region held
         (λ index among part. agree index among (t.stores.updates.boxed index among) part) t)
 
-    store_alike : (done failed : ℕ) → Front (λ indices. Takes layout keep region held indices a now_a) chunks done failed a now_a → SameOrKept a b now_a (after_b done failed)
+    store_alike : (done failed : ℕ) → Front Makes (λ indices. Takes layout keep region held indices a now_a) chunks done failed a now_a → SameOrKept a b now_a (after_b done failed)
     store_alike done failed front =
         copied_alike layout a now_a b chunks done failed (front_keys layout a now_a (λ indices. Takes layout keep region held indices a now_a) chunks done failed (λ t. t.stores.updates.keys) front)
 
@@ -585,15 +584,15 @@ module _ (layout : Layout) (lawful : IsLawful layout) (keep : Bool) (shape wante
 
   cut_front : (done failed : ℕ)
       → ((index : List ℕ) → Contains (take done cut_list) index → keeps_some layout.grid wanted index ≡ true → AgreeAt layout a b index)
-      → Front (λ indices. Cuts layout keep wanted indices a now_a) cut_list done failed a now_a
-      → Front (λ indices. Cuts layout keep wanted indices b (after_cut done failed)) cut_list done failed b (after_cut done failed)
+      → Front Makes (λ indices. Cuts layout keep wanted indices a now_a) cut_list done failed a now_a
+      → Front Makes (λ indices. Cuts layout keep wanted indices b (after_cut done failed)) cut_list done failed b (after_cut done failed)
   cut_front done failed same front =
       front_copied layout a now_a b (λ indices. Cuts layout keep wanted indices a now_a) (λ indices. Cuts layout keep wanted indices b (after_cut done failed)) cut_list done failed front
       (λ c. cuts_copied layout lawful a now_a b (after_cut done failed) (take done cut_list)
       (here layout lawful keep cut_list a now_a b calls done failed) (elsewhere layout lawful keep cut_list a now_a b calls done failed) keep wanted
       (λ index among has kept. (same index among kept).values) c)
 
-  cut_alike : (done failed : ℕ) → Front (λ indices. Cuts layout keep wanted indices a now_a) cut_list done failed a now_a → SameOrKept a b now_a (after_cut done failed)
+  cut_alike : (done failed : ℕ) → Front Makes (λ indices. Cuts layout keep wanted indices a now_a) cut_list done failed a now_a → SameOrKept a b now_a (after_cut done failed)
   cut_alike done failed front =
       copied_alike layout a now_a b cut_list done failed (front_keys layout a now_a (λ indices. Cuts layout keep wanted indices a now_a) cut_list done failed (λ c. c.keys) front)
 
@@ -677,7 +676,7 @@ module _ (layout : Layout) (lawful : IsLawful layout) (keep : Bool) (index : Lis
           put = record {
             held = copied_here layout.key (value_at now_a) (index ∷ []) b.values index (member index) ∙ c.put.held;
             others = λ other apart. copied_others layout.key (value_at now_a) (index ∷ []) b.values other (λ i among is. apart (is ∙ ap layout.key (only_member index i among)));
-            makes = record { calls = refl; failures = refl; reach = record { may_ask = λ key. refl; may_read = λ key place. refl; sets_parts = refl; lenders = refl } };
+            makes = record { calls = refl; failures = refl; reach = record { may_ask = λ key. refl; may_read = λ key place. refl; sets_parts = refl; lenders = refl; parts = refl } };
           };
         },
         record {

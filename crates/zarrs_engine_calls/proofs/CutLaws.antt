@@ -17,6 +17,7 @@ use Rattle.zarrs_keys.specs.Keys.{IsIndexList}
 use Rattle.zarrs_storage.specs.Store.{StoreState}
 use Rattle.zarrs_engine_calls.specs.Layout.{Layout, IsLawful}
 use Rattle.zarrs_engine_calls.specs.Content.{value_at, content}
+use Rattle.zarrs_engine_calls.specs.Changes.{Makes}
 use Rattle.zarrs_engine_calls.specs.Cuts.{Cuts, cut_chunks, is_below, is_cut, is_cut_away}
 use Rattle.zarrs_engine_calls.specs.Fronts.{Front, is_in_chunks}
 use Rattle.zarrs_engine_calls.specs.Acts.{resize}
@@ -80,7 +81,7 @@ in_none layout position = elim (cases_Bool (is_covered layout.grid position)) [
 ]
 
 -- what a front of the chunks leaves
-front_cells : (layout : Layout) (keep : Bool) (wanted : List ℕ) (chunks : List (List ℕ)) (done failed : ℕ) (old new : StoreState) → Front (λ indices. Cuts layout keep wanted indices old new) chunks done failed old new
+front_cells : (layout : Layout) (keep : Bool) (wanted : List ℕ) (chunks : List (List ℕ)) (done failed : ℕ) (old new : StoreState) → Front Makes (λ indices. Cuts layout keep wanted indices old new) chunks done failed old new
     → (position : List ℕ) → content layout (value_at new) position
     ≡ cond (is_in_chunks layout (take done chunks) position && not (is_below wanted position)) (Some layout.fill) (content layout (value_at old) position)
 front_cells layout keep wanted chunks zero failed old new front position =
@@ -119,7 +120,7 @@ cut_is_one grid old wanted n index among =
 abbrev SomeCut : Layout → Bool → List ℕ → List (List ℕ) → StoreState → StoreState → Type 0
 SomeCut layout keep wanted chunks old new = (new.values ≡ old.values) ⊎ ((n : ℕ) × Cuts layout keep wanted (take n chunks) old new)
 
-front_some : (layout : Layout) (keep : Bool) (wanted : List ℕ) (chunks : List (List ℕ)) (done failed : ℕ) (old new : StoreState) → Front (λ indices. Cuts layout keep wanted indices old new) chunks done failed old new → SomeCut layout keep wanted chunks old new
+front_some : (layout : Layout) (keep : Bool) (wanted : List ℕ) (chunks : List (List ℕ)) (done failed : ℕ) (old new : StoreState) → Front Makes (λ indices. Cuts layout keep wanted indices old new) chunks done failed old new → SomeCut layout keep wanted chunks old new
 front_some layout keep wanted chunks zero failed old new front = inl (front.untouched refl)
 front_some layout keep wanted chunks (suc done) failed old new front = inr (suc done, front.changes (omega arith))
 

@@ -16,7 +16,7 @@ use Rattle.zarrs_storage.specs.Store.{StoreState}
 use Rattle.zarrs_data_type.specs.Cell.{Cell, are_values}
 use Rattle.zarrs_engine_calls.specs.Layout.{Layout, IsLawful}
 use Rattle.zarrs_engine_calls.specs.Content.{value_at, content, chunk_cell}
-use Rattle.zarrs_engine_calls.specs.Changes.{HoldsValue, IsPut, IsValueOf}
+use Rattle.zarrs_engine_calls.specs.Changes.{HoldsValue, IsPut, IsValueOf, Makes}
 use Rattle.zarrs_engine_calls.specs.Cuts.{Cuts, cut_chunks, is_below, is_cut, is_cut_away, keeps_some}
 use Rattle.zarrs_engine_calls.specs.Fronts.{CutsAll, Front, is_in_chunks}
 use Rattle.zarrs_engine_calls.specs.StateRefusals.{AreCut}
@@ -226,7 +226,7 @@ away_is layout lawful old wanted position =
 
 -- with all chunks cut the content is what a change of the shape leaves
 pub cuts_all : (layout : Layout) → IsLawful layout → (keep : Bool) (shape wanted : List ℕ) (old new : StoreState) → Cuts layout keep wanted (cut_chunks layout.grid shape wanted) old new
-    → Front (λ indices. Cuts layout keep wanted indices old new) (cut_chunks layout.grid shape wanted) (length (cut_chunks layout.grid shape wanted)) 0 old new → CutsAll layout keep shape wanted old new
+    → Front Makes (λ indices. Cuts layout keep wanted indices old new) (cut_chunks layout.grid shape wanted) (length (cut_chunks layout.grid shape wanted)) 0 old new → CutsAll layout keep shape wanted old new
 cuts_all layout lawful keep shape wanted old new c front = record {
   cuts = c;
   updates = λ position.

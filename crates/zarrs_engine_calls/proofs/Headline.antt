@@ -77,11 +77,11 @@ module _ (layout : Layout) (old new : StoreState) where
       ]
 
   -- a front of chunks leaves what each list of them leaves
-  module _ (changed : List (List ℕ) → Type 0) (chunks : List (List ℕ)) where
+  module _ {calls : ℕ → ℕ → StoreState → StoreState → Type 0} (changed : List (List ℕ) → Type 0) (chunks : List (List ℕ)) where
     front_cells : (done failed : ℕ) (f : List ℕ → Option Cell)
         → ((position : List ℕ) → changed (take done chunks) → content layout (value_at new) position
         ≡ cond (is_in_chunks layout (take done chunks) position) (f position) (content layout (value_at old) position))
-        → Front changed chunks done failed old new → (position : List ℕ) → content layout (value_at new) position
+        → Front calls changed chunks done failed old new → (position : List ℕ) → content layout (value_at new) position
         ≡ cond (is_in_chunks layout (take done chunks) position) (f position) (content layout (value_at old) position)
     front_cells zero failed f each front position =
         same_values layout old new position (front.untouched refl)
@@ -89,7 +89,7 @@ module _ (layout : Layout) (old new : StoreState) where
     front_cells (suc done) failed f each front position = each position (front.changes (omega arith))
 
     pub front_keys : (done failed : ℕ) → (changed (take done chunks) → ChangesKeysOf layout (take done chunks) old new)
-        → Front changed chunks done failed old new → ChangesKeysOf layout (take done chunks) old new
+        → Front calls changed chunks done failed old new → ChangesKeysOf layout (take done chunks) old new
     front_keys zero failed each front = λ key apart. ap (λ values. map.get values key) (front.untouched refl)
     front_keys (suc done) failed each front = each (front.changes (omega arith))
 
@@ -150,8 +150,8 @@ module _ (layout : Layout) (lawful : IsLawful layout) (keep : Bool) (shape : Lis
 
 module _ (layout : Layout) (lawful : IsLawful layout) (keep : Bool) (old new : ArrayState) where
   -- a refused write
-  pub in_part : (act : Act) (chunks : List (List ℕ)) (changed : List (List ℕ) → Type 0) (early : Type 0) (late : List ℕ → ℕ → Type 0)
-      → (s : RefusesWrite changed chunks early late old.store new.store)
+  pub in_part : {calls : ℕ → ℕ → StoreState → StoreState → Type 0} → (act : Act) (chunks : List (List ℕ)) (changed : List (List ℕ) → Type 0) (early : Type 0) (late : List ℕ → ℕ → Type 0)
+      → (s : RefusesWrite calls changed chunks early late old.store new.store)
       → ((position : List ℕ) → changed (take s.done chunks) → cell_at layout new position
       ≡ cond (is_in_chunks layout (take s.done chunks) position) (made layout old.shape act (cell_at layout old) position) (cell_at layout old position))
       → (changed (take s.done chunks) → ChangesKeysOf layout (take s.done chunks) old.store new.store)

@@ -14,12 +14,13 @@ use Rattle.zarrs_chunk_grid.specs.Grids.{box_at, index_at, has_box, is_covered}
 use Rattle.zarrs_chunk_grid.proofs.Chunks.{box_is_there, box_long, box_index}
 use Rattle.zarrs_keys.specs.Keys.{IsIndexList}
 use Rattle.zarrs_storage.specs.Store.{StoreState}
+use Rattle.zarrs_storage.proofs.ValuesLemmas.{reach_on}
 use Rattle.zarrs_data_type.specs.Cell.{Cell, are_values}
 use Rattle.zarrs_data_type.specs.ArrayData.{ArrayData}
 use Rattle.zarrs_data_type.specs.Cells.{cells}
 use Rattle.zarrs_engine_calls.specs.Layout.{Layout, IsLawful}
 use Rattle.zarrs_engine_calls.specs.Content.{value_at, content, Reads, cell_at_place, chunk_cell}
-use Rattle.zarrs_engine_calls.specs.Changes.{IsValueOf, ChangesKeysOf, Makes, Stores, Erases, IsPut}
+use Rattle.zarrs_engine_calls.specs.Changes.{IsValueOf, ChangesKeysOf, Makes, Stores, Erases, IsPut, Puts}
 use Rattle.zarrs_engine_calls.proofs.Contents.{fill_at, index_list, one_key, content_in_box, content_covered}
 use Rattle.zarrs_engine_calls.proofs.Contents.{content_uncovered, covered_has_box, in_chunk, member, only_member, same_or_not}
 use Rattle.zarrs_engine_calls.specs.Fronts.{Front, Takes, StoresAll, ErasesAll, is_in_chunks}
@@ -30,7 +31,7 @@ left_out_fill true all e = absurd (cc)
 left_out_fill false all e = e
 
 -- one key changed, so no other chunk's bytes
-pub put_changes : (layout : Layout) (index key : List ℕ) (encoded : Option (List ℕ)) (old new : StoreState) → key ≡ layout.key index → IsPut key encoded old new → ChangesKeysOf layout (index ∷ []) old new
+pub put_changes : {made : ℕ → ℕ → StoreState → StoreState → Type 0} → (layout : Layout) (index key : List ℕ) (encoded : Option (List ℕ)) (old new : StoreState) → key ≡ layout.key index → Puts made key encoded old new → ChangesKeysOf layout (index ∷ []) old new
 put_changes layout index key encoded old new is put = λ other apart. put.others other (λ same. apart index (member index) (same ∙ is))
 
 pub put_keeps : (layout : Layout) → IsLawful layout → (index key : List ℕ) (encoded : Option (List ℕ)) (old new : StoreState) → key ≡ layout.key index → IsPut key encoded old new → IsIndexList layout.grid.dimensions index
@@ -199,7 +200,7 @@ module _ (layout : Layout) (lawful : IsLawful layout) where
 pub store_front : (layout : Layout) (keep : Bool) (region : Box) (held : ArrayData) (given : List Cell) (chunks : List (List ℕ)) (done failed : ℕ) (old mid new : StoreState)
     → cells layout.kind held ≡ Some given → length given ≡ position_count region.shape → done ≤ length chunks
     → Stores layout keep region given (take done chunks) old mid → Makes done 0 old mid → (done ≡ 0 → mid.values ≡ old.values)
-    → new.values ≡ mid.values → Makes 0 failed mid new → Front (λ indices. Takes layout keep region held indices old new) chunks done failed old new
+    → new.values ≡ mid.values → Makes 0 failed mid new → Front Makes (λ indices. Takes layout keep region held indices old new) chunks done failed old new
 store_front layout keep region held given chunks done failed old mid new are count within stores made none still more = record {
   within = within;
   untouched = λ zero. still ∙ none zero;
@@ -207,14 +208,14 @@ store_front layout keep region held given chunks done failed old mid new are cou
   makes = record {
     calls = let a = made.calls in let b = more.calls in omega arith;
     failures = let a = made.failures in let b = more.failures in omega arith;
-    reach = record { may_ask = λ key. more.reach.may_ask key ∙ made.reach.may_ask key; may_read = λ key place. more.reach.may_read key place ∙ made.reach.may_read key place; sets_parts = more.reach.sets_parts ∙ made.reach.sets_parts; lenders = more.reach.lenders ∙ made.reach.lenders };
+    reach = reach_on old mid new made.reach more.reach;
   };
 }
 
 -- with all chunks done the content is the data over the region, where each of its positions lies in one of them
 pub stores_all : (layout : Layout) (keep : Bool) (region : Box) (held : ArrayData) (chunks : List (List ℕ)) (old new : StoreState) (t : Takes layout keep region held chunks old new)
     → ((position : List ℕ) → Holds region position → Contains chunks (index_at layout.grid position))
-    → Front (λ indices. Takes layout keep region held indices old new) chunks (length chunks) 0 old new → StoresAll layout keep region held chunks old new
+    → Front Makes (λ indices. Takes layout keep region held indices old new) chunks (length chunks) 0 old new → StoresAll layout keep region held chunks old new
 stores_all layout keep region held chunks old new t all front = record {
   takes = t;
   updates = λ position. elim (cases_Bool (in_box region position)) [
@@ -256,7 +257,7 @@ among_any indices i none among = among_none i indices among.0 none among.1 among
 
 -- with all chunks gone the content is fill in them
 pub erases_all : (layout : Layout) (chunks : List (List ℕ)) (old new : StoreState) → Erases layout chunks old new
-    → Front (λ indices. Erases layout indices old new) chunks (length chunks) 0 old new → ErasesAll layout chunks old new
+    → Front Makes (λ indices. Erases layout indices old new) chunks (length chunks) 0 old new → ErasesAll layout chunks old new
 erases_all layout chunks old new e front = record {
   erases = e;
   updates = λ position.

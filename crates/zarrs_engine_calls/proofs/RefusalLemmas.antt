@@ -7,7 +7,7 @@ use Rattle.std.proofs.lemmas.Bool.{le-leb, lt-leb, leb-false}
 use Rattle.std.proofs.Math.Nat.{mul-le-mul_left}
 use Rattle.zarrs_subset.specs.Boxes.{position_count}
 use Rattle.zarrs_chunk_grid.specs.Grids.{box_at, has_box}
-use Rattle.zarrs_storage.specs.Store.{StoreState, KeepsRules}
+use Rattle.zarrs_storage.specs.Store.{StoreState, KeepsReach}
 use Rattle.zarrs_storage.specs.declared.error.StorageError.{StorageError}
 use Rattle.zarrs_storage.specs.declared.error.StorageError.TheVariants as stored
 use Rattle.zarrs_codec_leaf.specs.declared.error.CodecError.{CodecError}
@@ -95,8 +95,8 @@ codec_said (coded.DoesNotFit _) = refl
 codec_said coded.SizeOverflow = refl
 codec_said coded.OutOfMemory = refl
 
-pub same_reach : (state : StoreState) → KeepsRules state state
-same_reach state = record { may_ask = λ key. refl; may_read = λ key place. refl; sets_parts = refl; lenders = refl }
+pub same_reach : (state : StoreState) → KeepsReach state state
+same_reach state = record { may_ask = λ key. refl; may_read = λ key place. refl; sets_parts = refl; lenders = refl; parts = refl }
 
 -- no writing call
 pub makes_none : (state : StoreState) → Makes 0 0 state state

@@ -78,6 +78,3 @@ pub calls_after : (layout : Layout) (keep asked : Bool) (call : Call) (calls : L
     → PatchStep layout keep asked call reply old new → KeepsRules old.store new.store → MayAskCalls layout (call ∷ calls) old → MayAskCalls layout calls new
 calls_after layout keep asked call calls reply old new s reach may =
     calls_later layout calls (record old { shape = new.shape }) new refl reach (may.1 new.shape (patch_leaves layout keep asked call reply old new s))
-
-pub reach_then : (old mid new : StoreState) → KeepsRules old mid → KeepsRules mid new → KeepsRules old new
-reach_then old mid new a b = record { may_ask = λ key. b.may_ask key ∙ a.may_ask key; may_read = λ key place. b.may_read key place ∙ a.may_read key place; sets_parts = b.sets_parts ∙ a.sets_parts; lenders = b.lenders ∙ a.lenders }

@@ -197,7 +197,7 @@ module _ (layout : Layout) (lawful : IsLawful layout) where
         ])
 
 -- a front keeps what no change of values ends and each change of chunks keeps
-pub front_keeps : (changed : List (List ℕ) → Type 0) (chunks : List (List ℕ)) (done failed : ℕ) (old new : StoreState) (P : (List ℕ → Option (List ℕ)) → Type 0)
-    → ((indices : List (List ℕ)) → changed indices → P (value_at old) → P (value_at new)) → Front changed chunks done failed old new → P (value_at old) → P (value_at new)
+pub front_keeps : {made : ℕ → ℕ → StoreState → StoreState → Type 0} → (changed : List (List ℕ) → Type 0) (chunks : List (List ℕ)) (done failed : ℕ) (old new : StoreState) (P : (List ℕ → Option (List ℕ)) → Type 0)
+    → ((indices : List (List ℕ)) → changed indices → P (value_at old) → P (value_at new)) → Front made changed chunks done failed old new → P (value_at old) → P (value_at new)
 front_keeps changed chunks zero failed old new P step f p = subst P (ap (λ values. map.get values) (sym (f.untouched refl))) p
 front_keeps changed chunks (suc done) failed old new P step f p = step (take (suc done) chunks) (f.changes (omega arith)) p

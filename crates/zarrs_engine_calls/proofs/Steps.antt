@@ -2,7 +2,8 @@
 use Rattle.std.proofs.Common.{◌≡◌, ◌+◌, ℕ, Bool, true, false, List, [], ◌∷◌, Option, Some, refl, sym, ◌∙◌, ap, subst, arith}
 use Rattle.zarrs_subset.specs.Regions.{Box}
 use Rattle.zarrs_chunk_grid.specs.Grids.{box_at, has_box}
-use Rattle.zarrs_storage.specs.Store.{StoreState, KeepsRules}
+use Rattle.zarrs_storage.specs.Store.{StoreState, KeepsReach}
+use Rattle.zarrs_storage.proofs.ValuesLemmas.{reach_on}
 use Rattle.zarrs_data_type.specs.Cell.{Cell}
 use Rattle.zarrs_data_type.specs.ArrayData.{ArrayData}
 use Rattle.zarrs_engine_calls.specs.Layout.{Layout, IsLawful, ArrayState}
@@ -32,7 +33,6 @@ use Rattle.zarrs_engine_calls.proofs.Compactions.{canonical_stays, decoding_stay
 use Rattle.zarrs_engine_calls.proofs.Shapes.{front_keeps, stores_keep_canon, stores_keep_decoding, erases_keep_canon, erases_keep_decoding}
 use Rattle.zarrs_engine_calls.proofs.Shapes.{cuts_keep_canon, cuts_keep_decoding}
 use Rattle.zarrs_engine_calls.proofs.Contents.{index_list}
-use Rattle.zarrs_engine_calls.proofs.Runs.{reach_then}
 
 -- each chunk that stands in this look-up decodes
 abbrev pub AllDecode : Layout → (List ℕ → Option (List ℕ)) → Type 0
@@ -118,11 +118,11 @@ courses_agree layout lawful a b p q =
     (canon_stays layout lawful p.0 p.1 a p.3 (empty_is_canonical layout lawful p.1.store p.2))
     (canon_stays layout lawful q.0 q.1 b q.3 (empty_is_canonical layout lawful q.1.store q.2))
 
-kept_reach : (old new : StoreState) → new ≡ old → KeepsRules old new
-kept_reach old new is = subst (KeepsRules old) (sym is) (same_reach old)
+kept_reach : (old new : StoreState) → new ≡ old → KeepsReach old new
+kept_reach old new is = subst (KeepsReach old) (sym is) (same_reach old)
 
 outcome_reach : (layout : Layout) (keep : Bool) (shape : List ℕ) (first : Option Refusal) (act : Act) (ended : Outcome) (old new : StoreState)
-    → ActOutcome layout keep shape first act ended old new → KeepsRules old new
+    → ActOutcome layout keep shape first act ended old new → KeepsReach old new
 outcome_reach layout keep shape first (store region held chunks) outcome.done old new s = s.1.front.makes.reach
 outcome_reach layout keep shape first (store region held chunks) (outcome.refused r) old new s = s.front.makes.reach
 outcome_reach layout keep shape first (erase chunks) outcome.done old new s = s.1.front.makes.reach
@@ -143,7 +143,7 @@ outcome_reach layout keep shape first act ended old new s = absurd s
 pub courses_keep_reach : CoursesKeepReach
 courses_keep_reach layout keep [] old new r = kept_reach old.store new.store (ap (λ (s : ArrayState). s.store) r)
 courses_keep_reach layout keep (event ∷ events) old new r =
-    reach_then old.store r.0.store new.store
+    reach_on old.store r.0.store new.store
     (outcome_reach layout keep old.shape r.1.first event.act event.ended old.store r.0.store r.1.does)
     (courses_keep_reach layout keep events r.0 new r.2)
 
@@ -153,7 +153,7 @@ record Counts (old new : StoreState) : Type 0 where
   is : new.calls + old.failures ≡ old.calls + new.failures + accepted
   none : accepted ≡ 0 → new.values ≡ old.values
 
-front_counts : (changed : List (List ℕ) → Type 0) (chunks : List (List ℕ)) (done failed : ℕ) (old new : StoreState) → Front changed chunks done failed old new → Counts old new
+front_counts : (changed : List (List ℕ) → Type 0) (chunks : List (List ℕ)) (done failed : ℕ) (old new : StoreState) → Front Makes changed chunks done failed old new → Counts old new
 front_counts changed chunks done failed old new f = record {
   accepted = done;
   is = let a = f.makes.calls in let b = f.makes.failures in omega arith;
@@ -242,7 +242,7 @@ writes_keep_decoding layout lawful keep =
 
 -- how many writing calls an event makes
 front_refused : (changed : List (List ℕ) → Type 0) (chunks : List (List ℕ)) (early : Type 0) (late : List ℕ → ℕ → Type 0) (r : Refusal) (old new : StoreState)
-    → RefusesWrite changed chunks early late old new → CountsWrites chunks (outcome.refused r) old new
+    → RefusesWrite Makes changed chunks early late old new → CountsWrites chunks (outcome.refused r) old new
 front_refused changed chunks early late r old new s = (s.done, s.failed, s.front.within, s.below, s.one, s.front.makes)
 
 none_refused : (r : Refusal) (old new : StoreState) → new ≡ old → CountsWrites [] (outcome.refused r) old new
@@ -294,7 +294,7 @@ step_other_keys layout lawful keep call reply old new s =
     courses_keep_other_keys layout lawful keep (event_of layout call reply ∷ []) old new (step_course layout keep call reply old new s)
 
 pub act_reach : (layout : Layout) (keep : Bool) (shape : List ℕ) (first : Option Refusal) (act : Act) (reply : Reply) (old new : StoreState)
-    → ActStep layout keep shape first act reply old new → KeepsRules old new
+    → ActStep layout keep shape first act reply old new → KeepsReach old new
 act_reach layout keep shape first act reply = outcome_reach layout keep shape first act (outcome_of reply)
 
 pub run_keeps : (layout : Layout) → IsLawful layout → (calls : List Call) (replies : List Reply) (old new : ArrayState)

@@ -1,9 +1,9 @@
 -- What calls do to the store and to the content.
-use Rattle.std.specs.Prelude.{◌≡◌, ◌≢◌, ℕ, ◌+◌, Bool, true, false, List, length, Option, Some, None, Contains}
+use Rattle.std.specs.Prelude.{◌≡◌, ◌≢◌, ◌⊎◌, ℕ, ◌+◌, Bool, true, false, List, [], ◌∷◌, length, take, Option, Some, None, Contains}
 use Rattle.zarrs_subset.specs.Regions.{Box, Holds, cell_in}
 use Rattle.zarrs_chunk_grid.specs.Grids.{box_at, index_at, is_covered, has_box}
 use Rattle.zarrs_keys.specs.Keys.{IsIndexList}
-use Rattle.zarrs_storage.specs.Store.{StoreState, KeepsRules}
+use Rattle.zarrs_storage.specs.Store.{StoreState, KeepsReach, KeepsRules}
 use Rattle.zarrs_data_type.specs.Cell.{Cell}
 use Rattle.zarrs_data_type.specs.ArrayData.{ArrayData}
 use Rattle.zarrs_data_type.specs.Cells.{cells}
@@ -11,11 +11,24 @@ use Rattle.zarrs_engine_calls.specs.Layout.{Layout}
 use Rattle.zarrs_engine_calls.specs.Content.{value_at, content, Reads}
 use Rattle.zarrs_engine_calls.specs.Refusals.{is_left_out, encoded_cells}
 
--- this many writing calls were accepted and this many failed, and what may be asked stays
+-- this many writing calls were accepted and this many failed, each of a whole value, and what may be asked stays
 pub record Makes (accepted failed : ℕ) (old new : StoreState) : Type 0 where
   pub calls : new.calls ≡ old.calls + accepted + failed
   pub failures : new.failures ≡ old.failures + failed
-  pub reach : KeepsRules old new
+  pub reach : KeepsReach old new
+
+-- so many parts were written before, and so many after: each of these chunks that takes its part by itself counts for one, or for none
+abbrev pub CountsParts : (List ℕ → Type 0) → List (List ℕ) → ℕ → ℕ → Type 0
+CountsParts itself [] before after = after ≡ before
+CountsParts itself (index ∷ indices) before after =
+    CountsParts itself indices before after ⊎ (itself index × CountsParts itself indices (before + 1) after)
+
+-- this many calls of each kind for the first of these chunks, one for each: of a part at most where the chunk takes its part by itself
+pub record MakesParts (itself : List ℕ → Type 0) (chunks : List (List ℕ)) (accepted failed : ℕ) (old new : StoreState) : Type 0 where
+  pub calls : new.calls ≡ old.calls + accepted + failed
+  pub failures : new.failures ≡ old.failures + failed
+  pub rules : KeepsRules old new
+  pub parts : CountsParts itself (take (accepted + failed) chunks) old.parts new.parts
 
 -- what is present at the key of a chunk of this box with these cells: nothing if it is left out, else their bytes
 abbrev pub IsValueOf : Layout → Bool → Box → List Cell → Option (List ℕ) → Type 0
@@ -79,8 +92,12 @@ abbrev pub RetrievesIfExists : Layout → List ℕ → Option ArrayData → Stor
 RetrievesIfExists layout index None state = (length index ≡ layout.grid.dimensions) × (value_at state (layout.key index) ≡ None)
 RetrievesIfExists layout index (Some held) state = RetrievesChunk layout index held state × IsPresent layout index state
 
--- this value, or none, is present at the key, no other key changed, and one writing call was made
-pub record IsPut (key : List ℕ) (value : Option (List ℕ)) (old new : StoreState) : Type 0 where
+-- this value, or none, is present at the key, no other key changed, and one writing call was made; `made` says what call
+pub record Puts (made : ℕ → ℕ → StoreState → StoreState → Type 0) (key : List ℕ) (value : Option (List ℕ)) (old new : StoreState) : Type 0 where
   pub held : value_at new key ≡ value
   pub others : (other : List ℕ) → other ≢ key → value_at new other ≡ value_at old other
-  pub makes : Makes 1 0 old new
+  pub makes : made 1 0 old new
+
+-- the same, by a call of a whole value
+abbrev pub IsPut : List ℕ → Option (List ℕ) → StoreState → StoreState → Type 0
+IsPut key value old new = Puts Makes key value old new

@@ -1,7 +1,7 @@
 -- What a change of the array's shape cuts away.
-use Rattle.std.specs.Prelude.{◌≡◌, ℕ, ◌&&◌, not, Bool, true, false, List, Option, Some, None, Contains, if◌then◌else◌}
+use Rattle.std.specs.Prelude.{◌≡◌, ℕ, ◌+◌, ◌-◌, ◌&&◌, not, Bool, true, false, List, Option, Some, None, Contains, if◌then◌else◌, slice_index, slice_set}
 use Rattle.std.specs.List.{filter}
-use Rattle.zarrs_subset.specs.Regions.{box_at_origin, in_box, positions}
+use Rattle.zarrs_subset.specs.Regions.{Box, box_at_origin, in_box, positions}
 use Rattle.zarrs_chunk_grid.specs.Grids.{Grid, box_at, has_box, index_at, is_covered}
 use Rattle.zarrs_storage.specs.Store.{StoreState}
 use Rattle.zarrs_data_type.specs.Cell.{Cell}
@@ -13,6 +13,13 @@ use Rattle.zarrs_engine_calls.specs.Changes.{ChangesKeysOf, HoldsValue}
 -- the position is below the shape: along each dimension
 abbrev pub is_below : List ℕ → List ℕ → Bool
 is_below shape position = in_box (box_at_origin shape) position
+
+-- the positions of the box that are not below the shape along dimension k
+abbrev pub beyond_box : Box → List ℕ → ℕ → Box
+beyond_box box shape k = record {
+  start = slice_set box.start k (slice_index shape k);
+  shape = slice_set box.shape k (slice_index box.start k + slice_index box.shape k - slice_index shape k);
+}
 
 -- the chunk has a position that is not below the shape: its last one is not
 abbrev pub is_cut : Grid → List ℕ → List ℕ → Bool

@@ -22,20 +22,21 @@ pub record Takes (layout : Layout) (keep : Bool) (region : Box) (held : ArrayDat
   pub count : length given ≡ position_count region.shape
   pub stores : Stores layout keep region given indices old new
 
--- The first `done` of the chunks are done, each by one writing call, and `failed` writing calls were refused. With
--- none done, no value changed.
-pub record Front (changed : List (List ℕ) → Type 0) (chunks : List (List ℕ)) (done failed : ℕ) (old new : StoreState) : Type 0 where
+-- The first `done` of the chunks are done, each by one writing call, and `failed` writing calls were refused; `made` says what
+-- calls these were. With none done, no value changed.
+pub record Front (made : ℕ → ℕ → StoreState → StoreState → Type 0) (changed : List (List ℕ) → Type 0) (chunks : List (List ℕ))
+    (done failed : ℕ) (old new : StoreState) : Type 0 where
   pub within : done ≤ length chunks
   pub untouched : done ≡ 0 → new.values ≡ old.values
   pub changes : 0 < done → changed (take done chunks)
-  pub makes : Makes done failed old new
+  pub makes : made done failed old new
 
 -- an accepted store: the content is the data over the region, and elsewhere what it was; the front is all of its chunks
 pub record StoresAll (layout : Layout) (keep : Bool) (region : Box) (held : ArrayData) (chunks : List (List ℕ)) (old new : StoreState) : Type 0 where
   pub takes : Takes layout keep region held chunks old new
   pub updates : (position : List ℕ) → content layout (value_at new) position
       ≡ (if in_box region position then cell_in region takes.given position else content layout (value_at old) position)
-  pub front : Front (λ indices. Takes layout keep region held indices old new) chunks (length chunks) 0 old new
+  pub front : Front Makes (λ indices. Takes layout keep region held indices old new) chunks (length chunks) 0 old new
 
 -- the position lies in one of these chunks
 abbrev pub is_in_chunks : Layout → List (List ℕ) → List ℕ → Bool
@@ -46,14 +47,14 @@ pub record ErasesAll (layout : Layout) (chunks : List (List ℕ)) (old new : Sto
   pub erases : Erases layout chunks old new
   pub updates : (position : List ℕ) → content layout (value_at new) position
       ≡ (if is_in_chunks layout chunks position then Some layout.fill else content layout (value_at old) position)
-  pub front : Front (λ indices. Erases layout indices old new) chunks (length chunks) 0 old new
+  pub front : Front Makes (λ indices. Erases layout indices old new) chunks (length chunks) 0 old new
 
 -- an accepted change of the array's shape from `shape` to `wanted`: what is cut away is fill, and elsewhere the content
 -- is what it was
 pub record CutsAll (layout : Layout) (keep : Bool) (shape wanted : List ℕ) (old new : StoreState) : Type 0 where
   pub cuts : Cuts layout keep wanted (cut_chunks layout.grid shape wanted) old new
   pub updates : (position : List ℕ) → content layout (value_at new) position ≡ resized layout shape wanted (content layout (value_at old)) position
-  pub front : Front (λ indices. Cuts layout keep wanted indices old new) (cut_chunks layout.grid shape wanted)
+  pub front : Front Makes (λ indices. Cuts layout keep wanted indices old new) (cut_chunks layout.grid shape wanted)
       (length (cut_chunks layout.grid shape wanted)) 0 old new
 
 -- Why a write was refused: for a reason that comes before any writing call, or at the first chunk that is not done.
@@ -63,11 +64,11 @@ HasWriteCause chunks early late done failed =
 
 -- a refused write: a front that is not all of its chunks, at most one writing call that failed, and the reason: one that comes
 -- before any writing call, or one of the next chunk
-pub record RefusesWrite (changed : List (List ℕ) → Type 0) (chunks : List (List ℕ))
+pub record RefusesWrite (made : ℕ → ℕ → StoreState → StoreState → Type 0) (changed : List (List ℕ) → Type 0) (chunks : List (List ℕ))
     (early : Type 0) (late : List ℕ → ℕ → Type 0) (old new : StoreState) : Type 0 where
   pub done : ℕ
   pub failed : ℕ
-  pub front : Front changed chunks done failed old new
+  pub front : Front made changed chunks done failed old new
   -- if there is a chunk, one is not done
   pub below : 0 < length chunks → done < length chunks
   -- at most one writing call was refused, and none is counted if no call was left

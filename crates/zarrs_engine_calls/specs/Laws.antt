@@ -5,7 +5,7 @@ use Rattle.zarrs_subset.specs.Boxes.{position_count}
 use Rattle.zarrs_subset.specs.Regions.{Box, Holds, in_box, cell_in}
 use Rattle.zarrs_chunk_grid.specs.Grids.{Grid, IsGrid, box_at, has_box, index_at, is_covered}
 use Rattle.zarrs_keys.specs.Keys.{IsIndexList}
-use Rattle.zarrs_storage.specs.Store.{StoreState, Values, KeepsRules}
+use Rattle.zarrs_storage.specs.Store.{StoreState, Values, KeepsReach}
 use Rattle.zarrs_data_type.specs.Cell.{Cell}
 use Rattle.zarrs_data_type.specs.ArrayData.{ArrayData}
 use Rattle.zarrs_data_type.specs.Cells.{cells}
@@ -370,11 +370,11 @@ CoursesKeepDecoding =
     (layout : Layout) → IsLawful layout → (keep : Bool) (events : List Event) (old new : ArrayState)
     → Course layout keep events old new → EachDecodes layout old.store → EachDecodes layout new.store
 
--- it changes nothing of what may be asked
+-- it changes nothing of what may be asked, and no call of it writes a part of a value
 abbrev pub CoursesKeepReach : Type 0
 CoursesKeepReach =
     (layout : Layout) (keep : Bool) (events : List Event) (old new : ArrayState)
-    → Course layout keep events old new → KeepsRules old.store new.store
+    → Course layout keep events old new → KeepsReach old.store new.store
 
 -- it leaves the values at the keys of no chunk
 abbrev pub CoursesKeepOtherKeys : Type 0

@@ -22,7 +22,7 @@ use Rattle.zarrs_engine_calls.specs.Acts.{Act, store, act_of, shape_after}
 use Rattle.zarrs_engine_calls.specs.Content.{value_at, content, Reads}
 use Rattle.zarrs_engine_calls.specs.Refusals as refusal
 use Rattle.zarrs_engine_calls.specs.Refusals.{Refusal, RefusesBy, refusal_of, refusal_of_codec}
-use Rattle.zarrs_engine_calls.specs.Changes.{ChangesKeysOf, HoldsValue, Makes}
+use Rattle.zarrs_engine_calls.specs.Changes.{ChangesKeysOf, HoldsValue, MakesParts}
 use Rattle.zarrs_engine_calls.specs.ChunkBoxes.{chunks_met, part_box}
 use Rattle.zarrs_engine_calls.specs.ArgumentRefusals.{argument_refusal, store_part_refusal, store_region_refusal}
 use Rattle.zarrs_engine_calls.specs.Step.{ActStep}
@@ -86,7 +86,7 @@ pub record TakesPatches (layout : Layout) (keep : Bool) (itself : List ℕ → T
 pub record PatchesAll (layout : Layout) (keep : Bool) (itself : List ℕ → Type 0) (region : Box) (held : ArrayData) (chunks : List (List ℕ))
     (old new : StoreState) : Type 0 where
   pub takes : TakesPatches layout keep itself region held chunks old new
-  pub makes : Makes (length chunks) 0 old new
+  pub makes : MakesParts itself chunks (length chunks) 0 old new
 
 -- ---- why a chunk does not take its part
 
@@ -136,7 +136,7 @@ pub record RefusesPatch (layout : Layout) (keep : Bool) (itself : List ℕ → T
 -- a refused store: a front of its chunks took their part
 abbrev pub RefusesPatches : Layout → Bool → (List ℕ → Type 0) → Option Refusal → Box → ArrayData → List (List ℕ) → Refusal → StoreState → StoreState → Type 0
 RefusesPatches layout keep itself first region held chunks r old new =
-    RefusesWrite (λ indices. TakesPatches layout keep itself region held indices old new) chunks (RefusesBy first r)
+    RefusesWrite (MakesParts itself chunks) (λ indices. TakesPatches layout keep itself region held indices old new) chunks (RefusesBy first r)
     (λ index failed. (first ≡ None) × RefusesPatch layout keep itself region held index failed new r) old new
 
 -- ---- stores
@@ -179,7 +179,8 @@ pub record RefusesEncoding (layout : Layout) (keep : Bool) (itself : List ℕ �
 -- a part that was refused: no value changes
 abbrev pub RefusesEncodePart : Layout → Bool → List ℕ → Box → ArrayData → Refusal → StoreState → StoreState → Type 0
 RefusesEncodePart layout keep index part held r old new =
-    RefusesWrite (λ indices. TakesPatches layout keep (IsEncoded layout old) (part_box (box_at layout.grid index) part) held indices old new) (index ∷ [])
+    RefusesWrite (MakesParts (IsEncoded layout old) (index ∷ []))
+    (λ indices. TakesPatches layout keep (IsEncoded layout old) (part_box (box_at layout.grid index) part) held indices old new) (index ∷ [])
     (RefusesBy (store_part_refusal layout index part held) r)
     (λ i failed. (store_part_refusal layout index part held ≡ None)
     × RefusesEncoding layout keep (IsEncoded layout old) (part_box (box_at layout.grid index) part) held i failed new r) old new

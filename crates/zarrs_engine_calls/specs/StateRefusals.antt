@@ -1,10 +1,10 @@
 -- Why a call is refused that its arguments do not refuse.
-use Rattle.std.specs.Prelude.{◌≡◌, ◌⊎◌, ℕ, [], ◌*◌, ◌≤◌, ◌^◌, Bool, true, false, List, length, Option, Some, None}
+use Rattle.std.specs.Prelude.{◌≡◌, ◌⊎◌, ℕ, [], ◌*◌, ◌<◌, ◌≤◌, ◌^◌, Bool, true, false, List, length, Option, Some, None}
 use Rattle.std.specs.Prelude.{Contains, if◌then◌else◌}
 use Rattle.std.specs.Option.{option_or}
 use Rattle.std.specs.List.{sum_by}
 use Rattle.zarrs_subset.specs.Boxes.{position_count}
-use Rattle.zarrs_subset.specs.Regions.{Box, Holds, IsLong, LiesInBox, in_box, cell_in}
+use Rattle.zarrs_subset.specs.Regions.{Box, Holds, in_box, cell_in}
 use Rattle.zarrs_chunk_grid.specs.Grids.{box_at}
 use Rattle.zarrs_storage.specs.Store.{StoreState, last_call}
 use Rattle.zarrs_data_type.specs.Kind.{cell_size}
@@ -18,7 +18,7 @@ use Rattle.zarrs_engine_calls.specs.Content.{value_at, content, Reads}
 use Rattle.zarrs_engine_calls.specs.Refusals as refusal
 use Rattle.zarrs_engine_calls.specs.Refusals.{Refusal, RefusesBy, box_refusal, is_too_large, data_refusal, fill_refusal, key_refusal, read_refusal}
 use Rattle.zarrs_engine_calls.specs.ChunkBoxes.{CoversBox, chunk_part}
-use Rattle.zarrs_engine_calls.specs.Cuts.{is_below, keeps_some}
+use Rattle.zarrs_engine_calls.specs.Cuts.{beyond_box, is_below, keeps_some}
 use Rattle.zarrs_engine_calls.specs.Reads.{IsBroken}
 
 -- the number of bytes that a cell holds, and a list of cells
@@ -66,9 +66,6 @@ IsRefusedAs layout keep region held index state r =
     (chunk : List Cell) × AreUpdated layout region held (box_at layout.grid index) state chunk
     × (data_refusal layout keep (box_at layout.grid index).shape (Some chunk) ≡ r)
 
-abbrev pub IsLargeChunk : Layout → Box → ArrayData → List ℕ → StoreState → Type 0
-IsLargeChunk layout region held index state = (chunk : List Cell) × AreUpdated layout region held (box_at layout.grid index) state chunk × AreLarge chunk
-
 -- the writing call failed, or none was left
 abbrev pub CallFails : ℕ → StoreState → Type 0
 CallFails failed new = (failed ≡ 1) ⊎ (new.calls ≡ last_call)
@@ -86,7 +83,7 @@ RefusesPart layout keep region held index failed new refusal.size_overflow =
     (failed ≡ 0)
     × ((is_too_large layout (box_at layout.grid index).shape ≡ true)
     ⊎ (IsPart layout region index
-    × (IsLargeBox layout (box_at layout.grid index) new ⊎ NeedsLargeFill layout index new ⊎ IsLargeChunk layout region held index new))
+    × (IsLargeBox layout (box_at layout.grid index) new ⊎ NeedsLargeFill layout index new))
     ⊎ IsRefusedAs layout keep region held index new (Some refusal.size_overflow))
 RefusesPart layout keep region held index failed new refusal.out_of_memory = Unit {0}
 RefusesPart layout keep region held index failed new _ = ⊥
@@ -109,13 +106,9 @@ IsCutAs layout keep shape index state r =
     (chunk : List Cell) × AreCut layout shape (box_at layout.grid index) state chunk
     × (data_refusal layout keep (box_at layout.grid index).shape (Some chunk) ≡ r)
 
--- a chunk of this box has a box of positions that are cut away, and as many fill values take more bytes than a usize counts
-pub record IsLargeFilling (layout : Layout) (shape : List ℕ) (box : Box) : Type 0 where
-  pub gone : Box
-  pub long : IsLong gone
-  pub inside : LiesInBox gone box
-  pub cut_away : (position : List ℕ) → Holds gone position → is_below shape position ≡ false
-  pub large : fill_refusal layout gone.shape ≡ Some refusal.size_overflow
+-- a fill value for each position of the box that is not below the shape along some dimension takes more bytes than a usize counts
+abbrev pub IsLargeFilling : Layout → List ℕ → Box → Type 0
+IsLargeFilling layout shape box = (k : ℕ) × (k < length shape) × (fill_refusal layout (beyond_box box shape k).shape ≡ Some refusal.size_overflow)
 
 -- Why a chunk that has a position below the shape is not cut to it, in the store state at that moment: its key refuses
 -- to be read, or the writing call failed (E7); it does not decode, or the chain takes no such chunk (E4); the size of the

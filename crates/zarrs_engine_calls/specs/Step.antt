@@ -8,7 +8,7 @@ use Rattle.zarrs_engine_calls.specs.Layout.{Layout, ArrayState}
 use Rattle.zarrs_engine_calls.specs.Outcome as outcome
 use Rattle.zarrs_engine_calls.specs.Outcome.{Outcome, outcome_of}
 use Rattle.zarrs_engine_calls.specs.Refusals.{Refusal, RefusesBy, length_refusal}
-use Rattle.zarrs_engine_calls.specs.Changes.{Erases, RetrievesChunk, RetrievesIfExists}
+use Rattle.zarrs_engine_calls.specs.Changes.{Erases, Makes, RetrievesChunk, RetrievesIfExists}
 use Rattle.zarrs_engine_calls.specs.declared.call.Call.{Call}
 use Rattle.zarrs_engine_calls.specs.declared.call.Reply.{Reply}
 use Rattle.zarrs_engine_calls.specs.Acts.{Act, store, erase, compact, read, read_chunk, resize, act_of, shape_after}
@@ -24,19 +24,19 @@ use Rattle.zarrs_engine_calls.specs.StateRefusals.{RefusesPart, RefusesErasure, 
 -- a refused store: a front of its chunks took their part
 abbrev pub RefusesStore : Layout → Bool → Option Refusal → Box → ArrayData → List (List ℕ) → Refusal → StoreState → StoreState → Type 0
 RefusesStore layout keep first region held chunks r old new =
-    RefusesWrite (λ indices. Takes layout keep region held indices old new) chunks (RefusesBy first r)
+    RefusesWrite Makes (λ indices. Takes layout keep region held indices old new) chunks (RefusesBy first r)
     (λ index failed. (first ≡ None) × RefusesPart layout keep region held index failed new r) old new
 
 -- a refused erasure: a front of its chunks is gone
 abbrev pub RefusesErase : Layout → Option Refusal → List (List ℕ) → Refusal → StoreState → StoreState → Type 0
 RefusesErase layout first chunks r old new =
-    RefusesWrite (λ indices. Erases layout indices old new) chunks (RefusesBy first r)
+    RefusesWrite Makes (λ indices. Erases layout indices old new) chunks (RefusesBy first r)
     (λ index failed. (first ≡ None) × RefusesErasure failed new r) old new
 
 -- a refused compaction: nothing is done
 abbrev pub RefusesCompact : Layout → Option Refusal → List ℕ → Refusal → StoreState → StoreState → Type 0
 RefusesCompact layout first index r old new =
-    RefusesWrite (λ indices. ⊥) (index ∷ []) (RefusesBy first r)
+    RefusesWrite Makes (λ indices. ⊥) (index ∷ []) (RefusesBy first r)
     (λ index failed. (first ≡ None) × RefusesCompactionOf layout index failed new r) old new
 
 -- an accepted store of one chunk, by one writing call
@@ -141,7 +141,7 @@ ResizesArray layout keep shape wanted old new = (resize_refusal layout wanted �
 -- a refused one, whose arguments decide this refusal first: a front of these chunks is cut
 abbrev pub RefusesCuts : Layout → Bool → List ℕ → Option Refusal → List ℕ → Refusal → StoreState → StoreState → Type 0
 RefusesCuts layout keep shape first wanted r old new =
-    RefusesWrite (λ indices. Cuts layout keep wanted indices old new) (cut_chunks layout.grid shape wanted) (RefusesBy first r)
+    RefusesWrite Makes (λ indices. Cuts layout keep wanted indices old new) (cut_chunks layout.grid shape wanted) (RefusesBy first r)
     (λ index failed. (first ≡ None) × RefusesCut layout keep wanted index failed new r) old new
 
 abbrev pub RefusesResize : Layout → Bool → List ℕ → List ℕ → Refusal → StoreState → StoreState → Type 0

@@ -61,15 +61,16 @@ pub record HasValue (layout : Layout) (keep : Bool) (box : Box) (held : ArrayDat
   pub count : length chunk ≡ position_count box.shape
   pub is_value : IsValueOf layout keep box chunk value
 
--- One key was not written, for this cause: no value changed, and at most one failure was counted, none if no call was left.
-pub record LeavesValues (why : ℕ → StoreState → Type 0) (old new : StoreState) : Type 0 where
+-- One key was not written, for this cause: no value changed, and at most one failure was counted, none if no call was left; `made`
+-- says what calls were made.
+pub record LeavesValues (made : ℕ → ℕ → StoreState → StoreState → Type 0) (why : ℕ → StoreState → Type 0) (old new : StoreState) : Type 0 where
   pub failed : ℕ
   pub one : failed ≤ 1
   pub counted : 0 < failed → new.calls ≢ last_call + 1
   pub values : new.values ≡ old.values
-  pub makes : Makes 0 failed old new
+  pub makes : made 0 failed old new
   pub cause : why failed new
 
--- a writing call was refused, or out of memory: as `LeavesValues` says
+-- a writing call of a whole value was refused, or out of memory: as `LeavesValues` says
 abbrev pub RefusesPut : Refusal → StoreState → StoreState → Type 0
-RefusesPut r old new = LeavesValues (λ failed state. RefusesErasure failed state r) old new
+RefusesPut r old new = LeavesValues Makes (λ failed state. RefusesErasure failed state r) old new

@@ -22,7 +22,8 @@ use Rattle.zarrs_codec_leaf.specs.Bytes.{endian_of}
 use Rattle.zarrs_codec_leaf.specs.declared.bytes_codec.BytesCodec.{BytesCodec}
 use Rattle.zarrs_codec_leaf.specs.declared.bytes_codec.Endianness.{Endianness}
 use Rattle.zarrs_codec_leaf.specs.declared.bytes_codec.Endianness.TheVariants.{Little}
-use Rattle.zarrs_codec_optional.specs.Configurations.{bytes}
+use Rattle.zarrs_codec_optional.specs.Configurations.{plain}
+use Rattle.zarrs_codec_optional.specs.PlainCodecs.{bytes}
 use Rattle.zarrs_codec.specs.Chains.{array_to_array_of, array_to_bytes_of, chain_data, bytes_codec_data}
 use Rattle.zarrs_codec.specs.Configurations.{ChainData, cells}
 use Rattle.zarrs_codec.specs.declared.codec.ArrayToBytesCodec as code
@@ -141,15 +142,15 @@ is_numeric kind cell_type typed = ap is_whole_number typed ∙ numeric cell_type
 
 -- a chain of `bytes` alone, little endian
 pub little_chain : (chain : CodecChain) (codecs : List ArrayToArrayCodec) (codec : BytesCodec) → array_to_array_of chain ≡ codecs → codecs ≡ [] → array_to_bytes_of chain ≡ code.Bytes codec → endian_of codec ≡ Some Little
-    → chain_data chain ≡ record { array_to_array = []; array_to_bytes = cells (bytes (Some Little)) }
+    → chain_data chain ≡ record { array_to_array = []; array_to_bytes = cells (plain (bytes (Some Little))) }
 little_chain chain codecs codec front none last endian =
     let before = front ∙ none in
-    let after = ap bytes_codec_data last ∙ ap (λ (e : Option Endianness). cells (bytes e)) endian in
+    let after = ap bytes_codec_data last ∙ ap (λ (e : Option Endianness). cells (plain (bytes e))) endian in
     λ i. record { array_to_array = map array_codec_data (before i); array_to_bytes = after i }
 
 -- the parts are those of the line
 pub made_parts : (shape chunk_shape fill : List ℕ) (cell_type : CellType) (sizes : List NonZeroU64) (extents : List ℕ) (grid : GridConfiguration) (chain : ChainData) (kind : Kind) (held : List ℕ)
-    → sizes_of sizes ≡ chunk_shape → extents ≡ shape → grid ≡ regular (sizes_of sizes) → chain ≡ record { array_to_array = []; array_to_bytes = cells (bytes (Some Little)) } → kind ≡ kind_of_cells cell_type → held ≡ fill
+    → sizes_of sizes ≡ chunk_shape → extents ≡ shape → grid ≡ regular (sizes_of sizes) → chain ≡ record { array_to_array = []; array_to_bytes = cells (plain (bytes (Some Little))) } → kind ≡ kind_of_cells cell_type → held ≡ fill
     → ◌≡◌ {A = Meaning} (record { shape = extents; grid = grid; keys = Default Slash; chain = chain; kind = kind; fill = held }) (parts_of_line shape chunk_shape cell_type fill)
 made_parts shape chunk_shape fill cell_type sizes extents grid chain kind held is long on_grid in_bytes typed filled =
     let cut = on_grid ∙ ap regular is in

@@ -12,7 +12,8 @@ use Rattle.zarrs_data_type.specs.Kind.{Kind}
 use Rattle.zarrs_data_type.specs.Kind as type
 use Rattle.zarrs_data_type.specs.TypeMetadata.{kind_extension}
 use Rattle.zarrs_codec_leaf.specs.declared.bytes_codec.Endianness.TheVariants.{Little}
-use Rattle.zarrs_codec_optional.specs.Configurations.{bytes}
+use Rattle.zarrs_codec_optional.specs.Configurations.{plain}
+use Rattle.zarrs_codec_optional.specs.PlainCodecs.{bytes}
 use Rattle.zarrs_codec.specs.Metadata.{extensions_of_chain}
 use Rattle.zarrs_codec.specs.Configurations.{cells}
 use Rattle.zarrs_creation.specs.Meanings.{Meaning}
@@ -23,7 +24,7 @@ parts_for shape chunk_shape kind fill = record {
   shape = shape;
   grid = regular chunk_shape;
   keys = Default Slash;
-  chain = record { array_to_array = []; array_to_bytes = cells (bytes (Some Little)) };
+  chain = record { array_to_array = []; array_to_bytes = cells (plain (bytes (Some Little))) };
   kind = kind;
   fill = fill;
 }

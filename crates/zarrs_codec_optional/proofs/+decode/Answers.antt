@@ -4,7 +4,7 @@ use Rattle.zarrs_data_type.specs.Cells.{cells}
 use Rattle.zarrs_data_type.specs.Kind.{kind, inner_of}
 use Rattle.zarrs_codec_leaf.specs.Refusals.{RefusesDecoding}
 use Rattle.zarrs_codec_optional.specs.CellsCodecLaws.{cells-lawful}
-use Rattle.zarrs_codec_optional.specs.CellsCodecs.{cells_meaning, mask_meaning, mask_codec_of, data_codec_of, optional_meaning_of}
+use Rattle.zarrs_codec_optional.specs.CellsCodecs.{cells_codec_data, cells_meaning, mask_meaning, mask_codec_of, data_codec_of, optional_meaning_of}
 use Rattle.zarrs_codec_optional.specs.Optional.{if_any, mask_and_data}
 use Rattle.zarrs_codec_optional.proofs.Kept.{err_kept}
 use Rattle.zarrs_codec_optional.proofs.OptionalData.{body-refused, present-has, decoded-optional}
@@ -45,7 +45,7 @@ optional::OptionalCodec::decode-from_present-requires-clause-present t c =
     sym c.mask_and_data.ensures ∙ ap (option_map (λ p. (p.0.now, p.1.now))) c.in-Some-mask_and_data.is in
     let read = subst (λ x. cells u (data_of c.in_ok-present.present) ≡ (if_any (cells_meaning x)).decoded u set c.in-Some-mask_and_data.body.now) c.deref.ensures c.in_ok-present.ensures.cells in
     present-has (mask_meaning (mask_codec_of codec)) d k u is n b c.in-Some-mask_and_data.mask.now c.in-Some-mask_and_data.body.now parts flags set
-    c.in_ok-flags.ensures.read c.in_ok-flags.ensures.set (data_of c.in_ok-present.present) read c.in_ok-present.ensures.some (cells-lawful (data_codec_of codec))
+    c.in_ok-flags.ensures.read c.in_ok-flags.ensures.set (data_of c.in_ok-present.present) read c.in_ok-present.ensures.some (cells-lawful (cells_codec_data (data_codec_of codec)))
 
 pub optional::OptionalCodec::decode-returns-clause-cells :
     goal.optional::OptionalCodec::decode-returns-clause-cells

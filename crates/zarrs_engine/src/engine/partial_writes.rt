@@ -31,7 +31,6 @@ impl<
     ghost use Rattle.zarrs_codec_chain.specs.Chain.{partial_encoding};
     ghost use Rattle.zarrs_codec_chain.specs.Options.{encodes_partially, stores_empty_chunks};
     ghost use Rattle.zarrs_engine_calls.specs.ArgumentRefusals.{part_refusal};
-    ghost use Rattle.zarrs_engine_calls.specs.Changes.{IsPut};
     ghost use Rattle.zarrs_engine_calls.specs.ChunkBoxes.{part_box};
     ghost use Rattle.zarrs_engine_calls.specs.Content.{value_at};
     ghost use Rattle.zarrs_engine_calls.specs.Patches.{PatchesAll, RefusesPartly, RefusesPatches};
@@ -42,11 +41,10 @@ impl<
     ghost use Rattle.zarrs_engine_calls.specs.Refusals.{refusal_of_storage};
     ghost use Rattle.zarrs_engine_layout.specs.Covers.{CoverRegion};
     ghost use Rattle.zarrs_engine.specs.RegionWrites.{AreCovered};
-    ghost use Rattle.zarrs_engine_layout.specs.Steps.{RefusesPut};
     ghost use Rattle.zarrs_engine.specs.Engine.{layout_of, store_of, KeepsLayout};
     ghost use Rattle.zarrs_engine.specs.Outcomes.{EncodesPartOrRefuses, Writes};
-    ghost use Rattle.zarrs_engine.specs.Patches.{LeavesPartly, LeavesPatch, PatchesChunk, Shares};
-    ghost use Rattle.zarrs_engine.specs.Patches.{SharesEach};
+    ghost use Rattle.zarrs_engine.specs.Patches.{LeavesPartly, LeavesPatch, PatchesChunk, PutsPart};
+    ghost use Rattle.zarrs_engine.specs.Patches.{RefusesPutPart, Shares, SharesEach};
 
     /// Returns whether the parts of chunks are written by themselves: the chain and the store can.
     pub(crate) fn encodes_partly(&self) -> bool
@@ -86,8 +84,9 @@ impl<
         key: &StoreKey,
         write: PartialWrite,
     ) -> Result<(), StorageError>
-        ensures { Writes refusal_of_storage S.state (IsPut key.now (after (change_of write)
-            (value_at (store_of S.state self.old) key.now))) RefusesPut self.old self.new result }
+        ensures { Writes refusal_of_storage S.state (PutsPart key.now (after (change_of write)
+            (value_at (store_of S.state self.old) key.now))) (RefusesPutPart key.now)
+            self.old self.new result }
     {
         match write {
             PartialWrite::Put(offset, bytes) => {
@@ -140,12 +139,14 @@ impl<
         &mut self,
         alloc: Global,
         chunk_indices: &[u64],
+        chunk: &ArraySubset,
         part: &ArraySubset,
         part_data: &ArrayBytes<'_>,
         options: &CodecOptions,
     ) -> Result<(), ArrayError>
         requires supported { (layout_of self.old).chain.encodes_partly ≡ true }
         requires boxed { has_box (layout_of self.old).grid chunk_indices.now ≡ true }
+        requires chunk { box_of chunk.now ≡ box_at (layout_of self.old).grid chunk_indices.now }
         requires part { LiesInShape (box_of part.now)
             (box_at (layout_of self.old).grid chunk_indices.now).shape }
         requires cells { HasCells (layout_of self.old).kind (data_of part_data.now)
@@ -158,8 +159,7 @@ impl<
             (stores_empty_chunks options.now) chunk_indices.now (box_of part.now)
             (data_of part_data.now)) self.old self.new result }
     {
-        let chunk = self.layout.chunk_box(alloc, chunk_indices)?;
-        let write = self.part_write(alloc, chunk_indices, &chunk, part, part_data, options)?;
+        let write = self.part_write(alloc, chunk_indices, chunk, part, part_data, options)?;
         let key = self.layout.chunk_key(alloc, chunk_indices)?;
         self.put_part(alloc, &key, write)?;
         Ok(())
@@ -200,6 +200,7 @@ impl<
             return self.patch_chunk(
                 alloc,
                 chunk_indices,
+                &chunk,
                 chunk_subset,
                 chunk_subset_data,
                 options,
@@ -274,7 +275,7 @@ impl<
         }
         let shared = region.overlap(alloc, &chunk)?;
         let (part, data) = self.seen_cells(alloc, region, region_data, &shared, chunk.start())?;
-        self.patch_chunk(alloc, chunk_indices, &part, &data, options)
+        self.patch_chunk(alloc, chunk_indices, &chunk, &part, &data, options)
     }
 
     /// Stores the region's data in these chunks, one after another, those of which it covers a part by themselves.

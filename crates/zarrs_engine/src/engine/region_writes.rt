@@ -261,6 +261,7 @@ impl<
             return self.patch_chunk(
                 alloc,
                 chunk_indices,
+                &chunk,
                 chunk_subset,
                 chunk_subset_data,
                 options,

@@ -9,21 +9,9 @@ use Rattle.zarrs_engine_calls.specs.Refusals.{Refusal, out_of_memory, refusal_of
 use Rattle.zarrs_engine_calls.proofs.RefusalLemmas.{storage_said}
 use Rattle.zarrs_engine.specs.Engine.{layout_of}
 use Rattle.zarrs_engine.specs.Patches.{LeavesPartly}
-use Rattle.zarrs_engine.proofs.PatchRefusals.{box_partly, partly_leaves, put_leaves_partly}
+use Rattle.zarrs_engine.proofs.PatchRefusals.{partly_leaves, put_leaves_partly}
 use Rattle.zarrs_engine.proofs.PatchedChunks.{patched}
 use Rattle.zarrs_engine.proofs.engine.Engine.patch_chunk.Goals as goal
-
-pub returns-in_err-chunk : goal.returns-in_err-chunk
-returns-in_err-chunk g c =
-    let layout = layout_of c.args.self.now in
-    let keep = stores_empty_chunks c.args.options.now in
-    let state = g.S.ReadableStorageTraits.state c.args.self.now.storage in
-    let index = c.args.chunk_indices.now in
-    let part = box_of c.args.part.now in
-    let held = data_of c.args.part_data.now in
-    let r = refusal_of c.in_err-chunk.field-0.0 in
-    let why = partly_leaves layout keep index part held r state (box_partly layout keep index part held state r c.requires.boxed c.in_err-chunk.ensures.refused) in
-    search (rules, why)
 
 pub part_write-requires-clause-long : goal.part_write-requires-clause-long
 part_write-requires-clause-long g c = (box_is_there (layout_of c.args.self.now).grid c.args.chunk_indices.now c.requires.boxed).long
@@ -53,7 +41,7 @@ returns-in_err-put_part g c =
     let old = g.S.ReadableStorageTraits.state c.args.self.now.storage in
     let new = g.S.ReadableStorageTraits.state c.put_part.new.self.storage in
     let e = c.in_err-put_part.field-0.0 in
-    let left = put_leaves_partly layout keep index part held e old new (ap is_some c.in_ok-write.ensures.written) c.in_err-put_part.ensures.refused in
+    let left = put_leaves_partly layout keep index part held c.in_ok-key.key e old new (ap is_some c.in_ok-write.ensures.written) c.in_err-put_part.ensures.refused in
     let why = subst (λ (r : Refusal). LeavesPartly layout keep index part held r old new) (sym (storage_said e)) left in
     search (rules, why)
 

@@ -1,5 +1,6 @@
 use Rattle.std.proofs.Common.{◌≡◌, ◌+◌, ◌&&◌, Bool, List, [], ◌∷◌, ◌++◌, take, drop, sym, ◌∙◌, ap, subst, arith}
 use Rattle.std.proofs.lemmas.List.{take_all, take_more}
+use Rattle.zarrs_storage.proofs.ValuesLemmas.{rules_on}
 use Rattle.zarrs_codec_chain.specs.Options.{encodes_partially, stores_empty_chunks}
 use Rattle.zarrs_engine_calls.specs.Layout.{Layout}
 use Rattle.zarrs_engine_calls.specs.Reach.{MayAskCall, MayAskCalls}
@@ -9,7 +10,7 @@ use Rattle.zarrs_engine_calls.specs.Patches.{PatchRun}
 use Rattle.zarrs_engine_calls.specs.Step.{Run}
 use Rattle.zarrs_engine_calls.proofs.Steps.{run_keeps, run_decodes}
 use Rattle.zarrs_engine_calls.proofs.Patched.{patched_all_one}
-use Rattle.zarrs_engine_calls.proofs.Runs.{run_push, reach_then}
+use Rattle.zarrs_engine_calls.proofs.Runs.{run_push}
 use Rattle.zarrs_engine.specs.Outcomes.{StepsAs}
 use Rattle.zarrs_engine.proofs.PatchedRuns.{patch_asked, patch_push, patch_reach}
 use Rattle.zarrs_engine.specs.Engine.{layout_of, state_of}
@@ -49,7 +50,7 @@ loop-call-preserved g c =
       patched = rw (more, p.items) (patch_push layout keep asked _ _ call c.answer-reply.result old mid new i.patched step.partly);
       layout = s.layout ∙ i.layout;
       others = others_then _ _ _ i.others s.others;
-      reach = reach_then old.store mid.store new.store i.reach kept;
+      reach = rules_on old.store mid.store new.store i.reach kept;
       ask =
           let rest = drop_first calls n call c.loop-call-test.true c.call-item.is in
           patch_asked layout keep asked call (drop (n + 1) calls) c.answer-reply.result mid new step.partly (subst (λ (calls : List Call). MayAskCalls layout calls mid) rest i.ask);
