@@ -1,8 +1,9 @@
 -- Writing calls one after another.
 use Rattle.std.proofs.Common.{◌≡◌, inl, inr, ℕ, List, [], ◌∷◌, ◌++◌, refl, sym, subst, ◌∙◌}
 use Rattle.std.proofs.lemmas.List.{append-nil, append_assoc}
-use Rattle.zarrs_storage.specs.Store.{StoreState, KeepsRules, Refuses}
+use Rattle.zarrs_storage.specs.Store.{StoreState, KeepsReach, Refuses}
 use Rattle.zarrs_storage.specs.declared.error.StorageError.{StorageError}
+use Rattle.zarrs_storage.proofs.ValuesLemmas.{reach_on}
 use Rattle.zarrs_keys.specs.Keys.{v3_name, v2_array_name, v2_attributes_name, IsMetadataName}
 use Rattle.zarrs_keys.specs.Paths.{path_key}
 use Rattle.zarrs_options.specs.declared.versions.MetadataRetrieveVersion.{MetadataRetrieveVersion}
@@ -54,19 +55,11 @@ pub put_last : (puts : List Put) (old new : StoreState) → Putting puts [] old 
 put_last puts old new so = subst (λ (ps : List Put). ArePut ps old new) (sym (so.all ∙ append-nil so.done)) so.front
 
 -- what may be asked stays
-pub reach_after : (puts : List Put) (old new : StoreState) → ArePut puts old new → KeepsRules old new
-reach_after [] old new same = subst (λ (s : StoreState). KeepsRules old s) (sym same) (record { may_ask = λ key. refl; may_read = λ key place. refl; sets_parts = refl; lenders = refl })
-reach_after (p ∷ puts) old new first =
-    let here = first.first.makes.reach in
-    let after = reach_after puts first.middle new first.others in
-    record {
-      may_ask = λ key. after.may_ask key ∙ here.may_ask key;
-      may_read = λ key place. after.may_read key place ∙ here.may_read key place;
-      sets_parts = after.sets_parts ∙ here.sets_parts;
-      lenders = after.lenders ∙ here.lenders;
-    }
+pub reach_after : (puts : List Put) (old new : StoreState) → ArePut puts old new → KeepsReach old new
+reach_after [] old new same = subst (λ (s : StoreState). KeepsReach old s) (sym same) (record { may_ask = λ key. refl; may_read = λ key place. refl; sets_parts = refl; lenders = refl; parts = refl })
+reach_after (p ∷ puts) old new first = reach_on old first.middle new first.first.makes.reach (reach_after puts first.middle new first.others)
 
-pub may_ask_after : (version : MetadataRetrieveVersion) (path : List ℕ) (old new : StoreState) → MayAskEachMetadata old path → KeepsRules old new → MayAskMetadata version new path
+pub may_ask_after : (version : MetadataRetrieveVersion) (path : List ℕ) (old new : StoreState) → MayAskEachMetadata old path → KeepsReach old new → MayAskMetadata version new path
 may_ask_after version path old new each reach = by_version version
   where
     at : (name : List ℕ) → IsMetadataName name → MayAskKey new (path_key path name)

@@ -7,7 +7,7 @@ use Rattle.std.proofs.lemmas.Bool.{cases_Bool, eqb-true, eq-eqb}
 use Rattle.zarrs_storage.specs.Store.{StoreState, Values, Accepts, Refuses, last_call, counted}
 use Rattle.zarrs_storage.specs.declared.error.StorageError.{StorageError}
 use Rattle.zarrs_storage.specs.declared.error.StorageError.TheVariants as stored
-use Rattle.zarrs_storage.proofs.ValuesLemmas.{get_inserted, get_removed, rules_of}
+use Rattle.zarrs_storage.proofs.ValuesLemmas.{get_inserted, get_removed}
 use Rattle.zarrs_engine_calls.specs.Changes.{Makes, IsPut}
 use Rattle.zarrs_engine_calls.specs.Refusals.{Refusal, refusal_of_storage}
 use Rattle.zarrs_engine_calls.specs.StateRefusals.{RefusesErasure, CallFails}
@@ -21,7 +21,7 @@ apart_test a b apart = elim (cases_Bool (bytes_eq a b)) [
 
 -- an accepted call is one that makes one writing call
 accepts_makes : (old new : StoreState) (written : Values) → Accepts old new written → Makes 1 0 old new
-accepts_makes old new written a = record { calls = omega (arith, a.calls); failures = omega (arith, a.failures); reach = rules_of old new a.reach }
+accepts_makes old new written a = record { calls = omega (arith, a.calls); failures = omega (arith, a.failures); reach = a.reach }
 
 pub put_set : (key value : List ℕ) (old new : StoreState) → Accepts old new (map.insert old.values key value) → IsPut key (Some value) old new
 put_set key value old new a = record {
@@ -66,7 +66,7 @@ put_refused e old new r = record {
     | inr none ↦ absurd (let a = none.0 in omega arith)
   ];
   values = r.values;
-  makes = record { calls = (let a = r.calls in omega arith); failures = r.failures; reach = rules_of old new r.reach };
+  makes = record { calls = (let a = r.calls in omega arith); failures = r.failures; reach = r.reach };
   cause = failed_erasure e (counted old) new (elim (counted_or_last old) [
     | inl one ↦ inl one.0
     | inr none ↦ inr (let a = none.0 in let b = none.1 in let c = r.calls in omega arith)

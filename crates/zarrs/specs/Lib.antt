@@ -11,7 +11,9 @@ pub mod Loans
 pub mod Elements
 pub mod Reopening
 pub mod OpeningReach
+pub mod Openings
 pub mod Outcomes
 pub mod PartialEncoders
 pub mod Upgrade
 pub mod Counts
+pub mod MetadataCalls

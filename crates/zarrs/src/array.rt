@@ -181,12 +181,10 @@ impl<TStorage> Array<TStorage> {
 }
 
 impl<TStorage: Drop> Array<TStorage> {
-    ghost use Rattle.std.specs.Prelude.{◌≡◌, IfOk, IfErr};
     ghost use Rattle.zarrs_metadata.specs.Versions.{metadata_view};
-    ghost use Rattle.zarrs_options.specs.Refusals.{create_refusal_of, RefusesCreation};
+    ghost use Rattle.zarrs_options.specs.Refusals.{RefusesCreation};
     ghost use Rattle.zarrs_creation.specs.Meanings.{creation, created};
-    ghost use Rattle.zarrs.specs.Arrays.{metadata_of_array, path_of_array, storage_of_array};
-    ghost use Rattle.zarrs.specs.Arrays.{HasDefaultOptions};
+    ghost use Rattle.zarrs.specs.Openings.{MakesArray};
 
     /// Makes the array at the path with this metadata and the default options. The store is not asked, and additional
     /// fields are not looked at.
@@ -204,12 +202,8 @@ impl<TStorage: Drop> Array<TStorage> {
         path: &str,
         metadata: ArrayMetadata,
     ) -> Result<Array<TStorage>, ArrayCreateError>
-        ensures metadata { IfOk result (λ a. metadata_of_array a ≡ metadata_view metadata) }
-        ensures path { IfOk result (λ a. path_of_array a ≡ path.now) }
-        ensures storage { IfOk result (λ a. storage_of_array a ≡ storage) }
-        ensures options { IfOk result HasDefaultOptions }
-        ensures refused { IfErr result (λ e. RefusesCreation
-            (created path.now (metadata_view metadata)) (create_refusal_of e)) }
+        ensures { MakesArray path.now storage (metadata_view metadata)
+            (RefusesCreation (created path.now (metadata_view metadata))) result }
     {
         let path = NodePath::new(alloc, path)?;
         let array = Array::with_metadata(alloc, storage, path, metadata)?;
@@ -222,12 +216,8 @@ impl<TStorage: Drop> Array<TStorage> {
         path: NodePath,
         metadata: ArrayMetadata,
     ) -> Result<Array<TStorage>, ArrayCreateError>
-        ensures metadata { IfOk result (λ a. metadata_of_array a ≡ metadata_view metadata) }
-        ensures path { IfOk result (λ a. path_of_array a ≡ path) }
-        ensures storage { IfOk result (λ a. storage_of_array a ≡ storage) }
-        ensures options { IfOk result HasDefaultOptions }
-        ensures refused { IfErr result
-            (λ e. RefusesCreation (creation (metadata_view metadata)) (create_refusal_of e)) }
+        ensures { MakesArray path storage (metadata_view metadata)
+            (RefusesCreation (creation (metadata_view metadata))) result }
     {
         let parts = parts_said(alloc, &metadata)?;
         let engine = Engine::new(
@@ -250,13 +240,9 @@ impl<TStorage: Drop> Array<TStorage> {
 }
 
 impl<TStorage: ReadableStorageTraits + Drop> Array<TStorage> {
-    ghost use Rattle.std.specs.Prelude.{◌≡◌, Ok, IfOk, IfErr};
     ghost use Rattle.zarrs_options.specs.declared.versions.MetadataRetrieveVersion.TheVariants as retrieve;
-    ghost use Rattle.zarrs_options.specs.Refusals.{create_refusal_of, RefusesCreation};
-    ghost use Rattle.zarrs_creation.specs.Opening.{opened, MayAskMetadata};
-    ghost use Rattle.zarrs_creation.specs.Opening.{IsMetadataKey, NamesOneOf};
-    ghost use Rattle.zarrs.specs.Arrays.{metadata_of_array, path_of_array, storage_of_array};
-    ghost use Rattle.zarrs.specs.Arrays.{HasDefaultOptions};
+    ghost use Rattle.zarrs_creation.specs.Opening.{MayAskMetadata};
+    ghost use Rattle.zarrs.specs.Openings.{OpensArray};
 
     /// Opens the array at the path by its V3 metadata, or by its V2 metadata if there is no `zarr.json`, with the default
     /// options.
@@ -269,15 +255,7 @@ impl<TStorage: ReadableStorageTraits + Drop> Array<TStorage> {
         path: &str,
     ) -> Result<Array<TStorage>, ArrayCreateError>
         requires { MayAskMetadata retrieve.Default (TStorage.state storage) path.now }
-        ensures metadata { IfOk result (λ a.
-            opened retrieve.Default (TStorage.state storage) path.now ≡ Ok (metadata_of_array a)) }
-        ensures path { IfOk result (λ a. path_of_array a ≡ path.now) }
-        ensures storage { IfOk result (λ a. storage_of_array a ≡ storage) }
-        ensures options { IfOk result HasDefaultOptions }
-        ensures refused { IfErr result (λ e. RefusesCreation
-            (opened retrieve.Default (TStorage.state storage) path.now) (create_refusal_of e)) }
-        ensures named { IfErr result (λ e. NamesOneOf (IsMetadataKey retrieve.Default path.now)
-            (create_refusal_of e)) }
+        ensures { OpensArray retrieve.Default TStorage.state path.now storage result }
     {
         Array::open_opt(alloc, storage, path, &MetadataRetrieveVersion::Default)
     }
@@ -299,15 +277,7 @@ impl<TStorage: ReadableStorageTraits + Drop> Array<TStorage> {
         version: &MetadataRetrieveVersion,
     ) -> Result<Array<TStorage>, ArrayCreateError>
         requires { MayAskMetadata version.now (TStorage.state storage) path.now }
-        ensures metadata { IfOk result (λ a.
-            opened version.now (TStorage.state storage) path.now ≡ Ok (metadata_of_array a)) }
-        ensures path { IfOk result (λ a. path_of_array a ≡ path.now) }
-        ensures storage { IfOk result (λ a. storage_of_array a ≡ storage) }
-        ensures options { IfOk result HasDefaultOptions }
-        ensures refused { IfErr result (λ e. RefusesCreation
-            (opened version.now (TStorage.state storage) path.now) (create_refusal_of e)) }
-        ensures named { IfErr result (λ e. NamesOneOf (IsMetadataKey version.now path.now)
-            (create_refusal_of e)) }
+        ensures { OpensArray version.now TStorage.state path.now storage result }
     {
         let node_path = NodePath::new(alloc, path)?;
         let metadata = stored_metadata(alloc, &storage, &node_path, *version)?;

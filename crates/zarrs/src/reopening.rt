@@ -4,11 +4,11 @@ ghost use Rattle.zarrs_metadata.specs.Versions.{MetadataData, metadata_view};
 ghost use Rattle.zarrs_creation.specs.Opening.{MayAskEachMetadata};
 ghost use Rattle.zarrs_creation.specs.Shown.{shown};
 ghost use Rattle.zarrs_options.specs.Refusals.{create_refusal_of, out_of_memory};
-ghost use Rattle.zarrs.specs.Laws.{IsReadAgain, normal_metadata, version_of};
+ghost use Rattle.zarrs.specs.Laws.{version_of};
 ghost use Rattle.zarrs.specs.Arrays.{metadata_of_array, metadata_options_of_array};
-ghost use Rattle.zarrs.specs.Arrays.{path_of_array, layout_of_array, store_of_array, HasDefaultOptions};
+ghost use Rattle.zarrs.specs.Arrays.{path_of_array, store_of_array};
 ghost use Rattle.zarrs.specs.Puts.{StoresMetadata};
-ghost use Rattle.zarrs.specs.Reopening.{RefusesToStore, RefusesReopening};
+ghost use Rattle.zarrs.specs.Reopening.{RefusesToStore, ReopensArray};
 
 use crate::array::Array;
 use std::alloc::Global;
@@ -73,20 +73,7 @@ pub fn written_and_opened<S: WritableStorageTraits + Drop>(
     array: Array<S>,
 ) -> Result<Array<S>, ArrayCreateError>
     requires { MayAskEachMetadata (store_of_array S.state array) (path_of_array array) }
-    ensures metadata { (m : MetadataData)
-        → shown (metadata_options_of_array array) (metadata_of_array array) ≡ Ok m
-        → IsReadAgain m → IfOk result (λ a. metadata_of_array a ≡ normal_metadata m) }
-    ensures path { IfOk result (λ a. path_of_array a ≡ path_of_array array) }
-    ensures layout { (m : MetadataData)
-        → shown (metadata_options_of_array array) (metadata_of_array array) ≡ Ok m
-        → IsReadAgain m → IfOk result (λ a. layout_of_array a ≡ layout_of_array array) }
-    ensures stored { IfOk result (λ a. StoresMetadata (metadata_options_of_array array)
-        (path_of_array array) (metadata_of_array array) (store_of_array S.state array)
-        (store_of_array S.state a)) }
-    ensures options { IfOk result HasDefaultOptions }
-    ensures refused { IfErr result (λ e. RefusesReopening S.state
-        (metadata_options_of_array array) (path_of_array array) (metadata_of_array array)
-        (create_refusal_of e) (store_of_array S.state array)) }
+    ensures { ReopensArray S.state array result }
 {
     let (path, version) = path_and_version(alloc, &array)?;
     let storage = stored(alloc, array)?;

@@ -133,7 +133,8 @@ NamesOneOf is_asked (unread key) = is_asked key
 NamesOneOf is_asked _ = Unit {0}
 
 -- A value was read, as this says; or it says a refusal, and this is refused. What could not be read is at one of these keys.
-pub record ReadsOrRefuses {T A : Type 0} (is_asked : List ℕ → Type 0) (said : Result A CreateRefusal) (means : T → A) (result : Result T ArrayCreateError) : Type 0 where
+pub record ReadsOrRefuses {T A : Type 0} (is_asked : List ℕ → Type 0) (said : Result A CreateRefusal) (means : T → A)
+    (result : Result T ArrayCreateError) : Type 0 where
   pub read : IfOk result (λ value. said ≡ Ok (means value))
   pub refused : IfErr result (λ e. RefusesCreation said (create_refusal_of e))
   pub named : IfErr result (λ e. NamesOneOf is_asked (create_refusal_of e))

@@ -1,6 +1,8 @@
 -- What is put into a store to write metadata there, and to erase it.
 use Rattle.std.specs.Prelude.{◌≡◌, ℕ, List, [], ◌∷◌, map, Option, Some, None, IfSome, IsSome}
 use Rattle.serde_json.specs.Data.{Members, no_members, member}
+use Rattle.zarrs_storage.specs.declared.error.StorageError.{StorageError}
+use Rattle.zarrs_storage.specs.declared.error.StorageError.TheVariants as stored
 use Rattle.zarrs_metadata_v3.specs.Document.{DocumentData, IsDocumentText}
 use Rattle.zarrs_metadata_v2.specs.Document.{DocumentV2Data, without_attributes, IsDocumentV2Text, IsAttributesText}
 use Rattle.zarrs_metadata.specs.Versions.{MetadataData, v3, v2}
@@ -62,3 +64,14 @@ erased_keys erase.V2 path m = v2_array_key path ∷ attributes_key path ∷ []
 -- the metadata of an array at a path is erased by these puts
 abbrev pub erasures : MetadataEraseVersion → List ℕ → MetadataData → List Put
 erasures version path m = map (λ key. put_at key None) (erased_keys version path m)
+
+-- ---- refused
+
+-- the refusal does not say of a key that what is there is no document
+abbrev pub NamesNoDocument : StorageError → Type 0
+NamesNoDocument (stored.InvalidMetadata key said) = ⊥
+NamesNoDocument stored.ReadOnly = Unit {0}
+NamesNoDocument stored.InvalidByteRange = Unit {0}
+NamesNoDocument stored.Exhausted = Unit {0}
+NamesNoDocument (stored.Other said) = Unit {0}
+NamesNoDocument stored.OutOfMemory = Unit {0}

@@ -4,9 +4,11 @@ ghost use Rattle.serde_json.specs.View.{members_view};
 ghost use Rattle.zarrs_metadata_v3.specs.View.{document_view};
 ghost use Rattle.zarrs_metadata_v2.specs.View.{document_v2_view};
 ghost use Rattle.zarrs_metadata.specs.Versions.{metadata_view};
+ghost use Rattle.zarrs_engine_calls.specs.Refusals.{refusal_of_storage};
 ghost use Rattle.zarrs_creation.specs.Opening.{v3_key, v2_array_key, attributes_key};
 ghost use Rattle.zarrs_creation.specs.Writing.{put_at, put_view, erasures, IsTextOfAttributes};
 ghost use Rattle.zarrs_creation.specs.Writing.{IsWrittenV3, IsWrittenV2, IsWrittenBy};
+ghost use Rattle.zarrs_creation.specs.Writing.{NamesNoDocument};
 
 use std::alloc::Global;
 use zarrs_keys::{NodePath, meta_key_v2_array, meta_key_v2_attributes, meta_key_v3};
@@ -166,5 +168,18 @@ pub fn erasures_of_metadata(
         MetadataEraseVersion::All => erase_all(alloc, path),
         MetadataEraseVersion::V3 => erase_v3(alloc, path),
         MetadataEraseVersion::V2 => erase_v2(alloc, path),
+    }
+}
+
+/// Returns the refusal of a call that writes metadata, by what its store answered. No document was read, so that none is
+/// named: of an `InvalidMetadata` the reason is kept, as `Other`.
+pub fn write_refusal(error: StorageError) -> StorageError
+    ensures named { NamesNoDocument result }
+    ensures refusal { refusal_of_storage result ≡ refusal_of_storage error }
+    ensures kept { NamesNoDocument error → result ≡ error }
+{
+    match error {
+        StorageError::InvalidMetadata(_, reason) => StorageError::Other(reason),
+        error => error,
     }
 }

@@ -9,14 +9,15 @@ use zarrs_storage::{Bytes, ReadableStorageTraits, StorageError, WritableStorageT
 use zarrs_subset::ArraySubsetTraits;
 
 impl<TStorage: ReadableStorageTraits> Array<TStorage> {
-    ghost use Rattle.std.specs.Prelude.{◌≡◌, IfOk, IfErr, OnOk, None};
+    ghost use Rattle.std.specs.Prelude.{◌≡◌, IfOk, IfErr};
     ghost use Rattle.std.specs.Prelude.{length, map, option_map};
     ghost use Rattle.zarrs_subset.specs.Regions.{positions};
     ghost use Rattle.zarrs_engine_calls.specs.Reach.{MayAskChunk, MayAskChunks};
     ghost use Rattle.zarrs_engine_calls.specs.Content.{value_at};
-    ghost use Rattle.zarrs_engine_calls.specs.Refusals.{RefusesBy, refusal_of, length_refusal, key_refusal};
+    ghost use Rattle.zarrs_engine_calls.specs.Refusals.{refusal_of, key_refusal};
     ghost use Rattle.zarrs_engine.specs.Encoded.{RefusesEncoded, stored_values};
     ghost use Rattle.zarrs.specs.Arrays.{layout_of_array, store_of_array};
+    ghost use Rattle.zarrs.specs.Queries.{Answers};
 
     /// Returns the bytes that are stored for the chunk with these indices, of which there is one for each dimension, or
     /// `None` if it is absent.
@@ -32,14 +33,10 @@ impl<TStorage: ReadableStorageTraits> Array<TStorage> {
             ≡ (layout_of_array self.now).grid.dimensions }
         requires ask { MayAskChunk (layout_of_array self.now) chunk_indices.now
             (store_of_array TStorage.state self.now) }
-        ensures value { IfOk result (λ value. option_map (λ v. v.items) value
+        ensures { Answers (key_refusal (layout_of_array self.now) chunk_indices.now
+            (store_of_array TStorage.state self.now)) (λ value. option_map (λ v. v.items) value
             ≡ value_at (store_of_array TStorage.state self.now)
-            ((layout_of_array self.now).key chunk_indices.now)) }
-        ensures accepted { OnOk result (key_refusal (layout_of_array self.now) chunk_indices.now
-            (store_of_array TStorage.state self.now) ≡ None) }
-        ensures refused { IfErr result (λ e. RefusesBy
-            (key_refusal (layout_of_array self.now) chunk_indices.now
-            (store_of_array TStorage.state self.now)) (refusal_of e)) }
+            ((layout_of_array self.now).key chunk_indices.now)) result }
     {
         self.engine.retrieve_encoded_chunk(alloc, chunk_indices)
     }
@@ -72,23 +69,15 @@ impl<TStorage: ReadableStorageTraits> Array<TStorage> {
 }
 
 impl<TStorage: WritableStorageTraits> Array<TStorage> {
-    ghost use Rattle.std.specs.Prelude.{◌≡◌, true, false, Some, IsSome, length};
-    ghost use Rattle.std.specs.Prelude.{IfOk, IfErr, OnOk, OnErr};
+    ghost use Rattle.std.specs.Prelude.{◌≡◌, true, Some, IsSome, length};
     ghost use Rattle.zarrs_chunk_grid.specs.Grids.{box_at, has_box};
-    ghost use Rattle.zarrs_storage.specs.Store.{KeepsRules};
     ghost use Rattle.zarrs_engine_calls.specs.Changes.{IsPut};
-    ghost use Rattle.zarrs_codec.specs.Options.{encodes_partially, stores_empty_chunks};
-    ghost use Rattle.zarrs_engine_calls.specs.Canon.{KeepsCanon};
     ghost use Rattle.zarrs_engine_calls.specs.Content.{decoded_cells};
-    ghost use Rattle.zarrs_engine_layout.specs.Steps.{RefusesPut};
-    ghost use Rattle.zarrs_engine_calls.specs.Patches.{writes_parts};
     ghost use Rattle.zarrs_engine_calls.specs.Reach.{MayAskCalls};
-    ghost use Rattle.zarrs_engine_calls.specs.Refusals.{refusal_of, refusal_of_storage};
-    ghost use Rattle.zarrs.specs.Outcomes.{ErasesChunkOrRefuses};
-    ghost use Rattle.zarrs_engine_calls.specs.Step.{ErasesChunks, RefusesEraseChunks};
-    ghost use Rattle.zarrs_engine.specs.Outcomes.{KeepsBytes, RunsAs};
-    ghost use Rattle.zarrs.specs.Arrays.{layout_of_array, state_of_array, store_of_array};
-    ghost use Rattle.zarrs.specs.Arrays.{IsUntouched, KeepsAllButShape, KeepsArray};
+    ghost use Rattle.zarrs_engine_layout.specs.Steps.{RefusesPut};
+    ghost use Rattle.zarrs.specs.Outcomes.{ErasesChunkOrRefuses, ErasesChunksOrRefuses};
+    ghost use Rattle.zarrs.specs.Outcomes.{ReplaysCalls, WritesOrRefuses};
+    ghost use Rattle.zarrs.specs.Arrays.{layout_of_array, state_of_array};
 
     /// Stores these bytes as those of the chunk with these indices, by one writing call of the store. The chunk has a
     /// box, and the bytes decode: both are conditions, and are not tested.
@@ -104,12 +93,9 @@ impl<TStorage: WritableStorageTraits> Array<TStorage> {
         requires chunk { has_box (layout_of_array self.old).grid chunk_indices.now ≡ true }
         requires decodes { IsSome (decoded_cells (layout_of_array self.old)
             (box_at (layout_of_array self.old).grid chunk_indices.now) encoded_chunk_bytes) }
-        ensures done { OnOk result (IsPut ((layout_of_array self.old).key chunk_indices.now)
-            (Some encoded_chunk_bytes) (store_of_array TStorage.state self.old)
-            (store_of_array TStorage.state self.new)) }
-        ensures refused { IfErr result (λ e. RefusesPut (refusal_of e)
-            (store_of_array TStorage.state self.old) (store_of_array TStorage.state self.new)) }
-        ensures kept { KeepsArray self.old self.new }
+        ensures { WritesOrRefuses TStorage.state
+            (IsPut ((layout_of_array self.old).key chunk_indices.now) (Some encoded_chunk_bytes))
+            RefusesPut self.old self.new result }
     {
         self.engine
             .store_encoded_chunk(alloc, chunk_indices, encoded_chunk_bytes)
@@ -137,15 +123,8 @@ impl<TStorage: WritableStorageTraits> Array<TStorage> {
         chunks: &R,
     ) -> Result<(), StorageError>
         requires { length (R.region chunks.now).start ≡ (layout_of_array self.old).grid.dimensions }
-        ensures done { OnOk result (ErasesChunks (layout_of_array self.old) (R.region chunks.now)
-            (store_of_array TStorage.state self.old) (store_of_array TStorage.state self.new)) }
-        ensures refused { IfErr result
-            (λ e. RefusesEraseChunks (layout_of_array self.old) (R.region chunks.now)
-            (refusal_of_storage e) (store_of_array TStorage.state self.old)
-            (store_of_array TStorage.state self.new)) }
-        ensures canonical { KeepsCanon (layout_of_array self.old) false
-            (store_of_array TStorage.state self.old) (store_of_array TStorage.state self.new) }
-        ensures kept { KeepsArray self.old self.new }
+        ensures { ErasesChunksOrRefuses TStorage.state (R.region chunks.now) self.old self.new
+            result }
     {
         let Ok(chunks) = chunks.to_array_subset(alloc) else {
             return Err(StorageError::OutOfMemory);
@@ -165,19 +144,7 @@ impl<TStorage: WritableStorageTraits> Array<TStorage> {
     ) -> Result<Vec<Reply>, AllocError>
         requires { MayAskCalls (layout_of_array self.old) calls.now
             (state_of_array TStorage.state self.old) }
-        ensures run { IfOk result (λ replies. RunsAs (layout_of_array self.old) options.now
-            calls.now replies.items (state_of_array TStorage.state self.old)
-            (state_of_array TStorage.state self.new)) }
-        ensures untouched { OnErr result (IsUntouched self.old self.new) }
-        ensures layout { layout_of_array self.new ≡ layout_of_array self.old }
-        ensures kept { KeepsAllButShape self.old self.new }
-        ensures reach { KeepsRules (store_of_array TStorage.state self.old)
-            (store_of_array TStorage.state self.new) }
-        // So it is if no part is written by itself.
-        ensures bytes { writes_parts (encodes_partially options.now) (layout_of_array self.old)
-            (store_of_array TStorage.state self.old) ≡ false
-            → KeepsBytes (layout_of_array self.old) (stores_empty_chunks options.now)
-            (store_of_array TStorage.state self.old) (store_of_array TStorage.state self.new) }
+        ensures { ReplaysCalls TStorage.state calls.now options.now self.old self.new result }
     {
         let replies = replay(alloc, &mut self.engine, calls, options)?;
         overwrite_shape(&mut self.metadata, self.engine.chunk_grid().array_shape());

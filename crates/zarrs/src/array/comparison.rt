@@ -6,14 +6,11 @@ use zarrs_storage::ReadableStorageTraits;
 use zarrs_subset::ArraySubsetTraits;
 
 impl<TStorage: ReadableStorageTraits> Array<TStorage> {
-    ghost use Rattle.std.specs.Prelude.{◌≡◌, IfOk, IfErr, length};
-    ghost use Rattle.std.specs.Bool.{OnFalse, OnTrue};
+    ghost use Rattle.std.specs.Prelude.{◌≡◌, length};
     ghost use Rattle.zarrs_subset.specs.Regions.{positions};
     ghost use Rattle.zarrs_engine_calls.specs.Reach.{MayAskChunks};
-    ghost use Rattle.zarrs_engine_calls.specs.Refusals.{refusal_of};
-    ghost use Rattle.zarrs_engine.specs.Comparisons.{ComparesContent, DifferInChunk};
-    ghost use Rattle.zarrs_engine.specs.Comparisons.{HoldSameChunks, RefusesComparison};
     ghost use Rattle.zarrs.specs.Arrays.{layout_of_array, store_of_array};
+    ghost use Rattle.zarrs.specs.Outcomes.{ComparesChunks};
 
     /// Returns whether of each chunk with indices in the range the same bytes are stored in both arrays, or none in
     /// both. No chunk is decoded. The chunks are asked in row-major order, up to the first one that differs; an empty
@@ -37,21 +34,9 @@ impl<TStorage: ReadableStorageTraits> Array<TStorage> {
             (store_of_array TStorage.state self.now) }
         requires other_ask { MayAskChunks (layout_of_array other.now)
             (positions (R.region chunks.now)) (store_of_array TStorage2.state other.now) }
-        ensures equal { IfOk result (λ equal. OnTrue equal (HoldSameChunks
-            (layout_of_array self.now) (layout_of_array other.now)
+        ensures { ComparesChunks (layout_of_array self.now) (layout_of_array other.now)
             (store_of_array TStorage.state self.now) (store_of_array TStorage2.state other.now)
-            (positions (R.region chunks.now)))) }
-        ensures different { IfOk result (λ equal. OnFalse equal (DifferInChunk
-            (layout_of_array self.now) (layout_of_array other.now)
-            (store_of_array TStorage.state self.now) (store_of_array TStorage2.state other.now)
-            (positions (R.region chunks.now)))) }
-        ensures content { IfOk result (λ equal. ComparesContent (layout_of_array self.now)
-            (layout_of_array other.now) (store_of_array TStorage.state self.now)
-            (store_of_array TStorage2.state other.now) (positions (R.region chunks.now)) equal) }
-        ensures refused { IfErr result (λ e. RefusesComparison (layout_of_array self.now)
-            (layout_of_array other.now) (store_of_array TStorage.state self.now)
-            (store_of_array TStorage2.state other.now) (positions (R.region chunks.now))
-            (refusal_of e)) }
+            (positions (R.region chunks.now)) result }
     {
         let chunks = chunks.to_array_subset(alloc)?;
         chunks_equal(alloc, &self.engine, &other.engine, &chunks)

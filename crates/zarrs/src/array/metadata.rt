@@ -1,7 +1,7 @@
 //! Metadata calls: the metadata of an array in its store.
 use super::Array;
 use std::alloc::Global;
-use zarrs_creation::{MetadataPut, erasures_of_metadata, puts_of_metadata};
+use zarrs_creation::{MetadataPut, erasures_of_metadata, puts_of_metadata, write_refusal};
 use zarrs_options::{ArrayMetadataOptions, MetadataEraseVersion};
 use zarrs_storage::{StorageError, WritableStorageTraits};
 
@@ -13,30 +13,25 @@ impl<TStorage: WritableStorageTraits> Array<TStorage> {
     ghost use Rattle.zarrs_options.specs.declared.versions.MetadataEraseVersion.TheVariants as erase;
     ghost use Rattle.zarrs_engine_calls.specs.Refusals.{refusal_of_storage};
     ghost use Rattle.zarrs_creation.specs.Shown.{shown};
-    ghost use Rattle.zarrs_creation.specs.Writing.{put_view, erasures};
+    ghost use Rattle.zarrs_creation.specs.Writing.{put_view};
     ghost use Rattle.zarrs.specs.Counts.{Writes, documents_of, erased_documents};
-    ghost use Rattle.zarrs.specs.Puts.{ArePut, PutsFront, RefusesCall, RefusesPuts};
-    ghost use Rattle.zarrs.specs.Puts.{StoresMetadata, RefusesStoreMetadata};
+    ghost use Rattle.zarrs.specs.MetadataCalls.{ErasesDocuments, PutsOrRefuses};
+    ghost use Rattle.zarrs.specs.MetadataCalls.{StoresDocuments};
+    ghost use Rattle.zarrs.specs.Puts.{ArePut, PutsFront, RefusesCall};
     ghost use Rattle.zarrs.specs.Arrays.{metadata_of_array, metadata_options_of_array};
-    ghost use Rattle.zarrs.specs.Arrays.{path_of_array, store_of_array, KeepsArray};
+    ghost use Rattle.zarrs.specs.Arrays.{store_of_array, KeepsArray};
 
     /// Stores the metadata, as the array's own metadata options show it. See `store_metadata_opt`.
     ///
     /// # Errors
     /// As `store_metadata_opt`.
     pub fn store_metadata(&mut self, alloc: Global) -> Result<(), StorageError>
-        ensures done { OnOk result (StoresMetadata (metadata_options_of_array self.old)
-            (path_of_array self.old) (metadata_of_array self.old)
-            (store_of_array TStorage.state self.old) (store_of_array TStorage.state self.new)) }
-        ensures refused { IfErr result
-            (λ e. RefusesStoreMetadata (metadata_options_of_array self.old)
-            (path_of_array self.old) (metadata_of_array self.old) (refusal_of_storage e)
-            (store_of_array TStorage.state self.old) (store_of_array TStorage.state self.new)) }
+        ensures stores { StoresDocuments TStorage.state (metadata_options_of_array self.old)
+            self.old self.new result }
         ensures count { (m : MetadataData)
             → shown (metadata_options_of_array self.old) (metadata_of_array self.old) ≡ Ok m
             → OnOk result (Writes (documents_of m) (store_of_array TStorage.state self.old)
             (store_of_array TStorage.state self.new)) }
-        ensures kept { KeepsArray self.old self.new }
     {
         let options = self.metadata_options;
         self.store_metadata_opt(alloc, &options)
@@ -47,24 +42,19 @@ impl<TStorage: WritableStorageTraits> Array<TStorage> {
     /// rest at `.zarray`.
     ///
     /// # Errors
-    /// If the store refuses, and `OutOfMemory`. No value is changed then, except that the attributes of a V2 array may
-    /// be stored. Memory is short before the first call of the store, or it is what a call answered.
+    /// If the store refuses, and `OutOfMemory`; no `InvalidMetadata`. No value is changed then, except that the attributes
+    /// of a V2 array may be stored. Memory is short before the first call of the store, or it is what a call answered.
     pub fn store_metadata_opt(
         &mut self,
         alloc: Global,
         options: &ArrayMetadataOptions,
     ) -> Result<(), StorageError>
-        ensures done { OnOk result (StoresMetadata (options_view options.now)
-            (path_of_array self.old) (metadata_of_array self.old)
-            (store_of_array TStorage.state self.old) (store_of_array TStorage.state self.new)) }
-        ensures refused { IfErr result (λ e. RefusesStoreMetadata (options_view options.now)
-            (path_of_array self.old) (metadata_of_array self.old) (refusal_of_storage e)
-            (store_of_array TStorage.state self.old) (store_of_array TStorage.state self.new)) }
+        ensures stores { StoresDocuments TStorage.state (options_view options.now) self.old self.new
+            result }
         ensures count { (m : MetadataData)
             → shown (options_view options.now) (metadata_of_array self.old) ≡ Ok m
             → OnOk result (Writes (documents_of m) (store_of_array TStorage.state self.old)
             (store_of_array TStorage.state self.new)) }
-        ensures kept { KeepsArray self.old self.new }
     {
         // The metadata of an array has a V3 document, so that only memory can run out.
         let Ok(metadata) = self.metadata_opt(alloc, options) else {
@@ -80,16 +70,9 @@ impl<TStorage: WritableStorageTraits> Array<TStorage> {
     /// # Errors
     /// As `erase_metadata_opt`.
     pub fn erase_metadata(&mut self, alloc: Global) -> Result<(), StorageError>
-        ensures done { OnOk result
-            (ArePut (erasures erase.Default (path_of_array self.old) (metadata_of_array self.old))
-            (store_of_array TStorage.state self.old) (store_of_array TStorage.state self.new)) }
-        ensures refused { IfErr result (λ e. RefusesPuts
-            (erasures erase.Default (path_of_array self.old) (metadata_of_array self.old))
-            (refusal_of_storage e) (store_of_array TStorage.state self.old)
-            (store_of_array TStorage.state self.new)) }
+        ensures erases { ErasesDocuments TStorage.state erase.Default self.old self.new result }
         ensures count { OnOk result (Writes (documents_of (metadata_of_array self.old))
             (store_of_array TStorage.state self.old) (store_of_array TStorage.state self.new)) }
-        ensures kept { KeepsArray self.old self.new }
     {
         self.erase_metadata_opt(alloc, MetadataEraseVersion::Default)
     }
@@ -98,24 +81,17 @@ impl<TStorage: WritableStorageTraits> Array<TStorage> {
     /// `.zarray` and `.zattrs` for V2, all three in this order, or by default those of the array's own version.
     ///
     /// # Errors
-    /// If the store refuses, and `OutOfMemory`. A front of the keys is erased then. Memory is short before the first call
-    /// of the store, or it is what a call answered.
+    /// If the store refuses, and `OutOfMemory`; no `InvalidMetadata`. A front of the keys is erased then. Memory is short
+    /// before the first call of the store, or it is what a call answered.
     pub fn erase_metadata_opt(
         &mut self,
         alloc: Global,
         version: MetadataEraseVersion,
     ) -> Result<(), StorageError>
-        ensures done { OnOk result
-            (ArePut (erasures version (path_of_array self.old) (metadata_of_array self.old))
-            (store_of_array TStorage.state self.old) (store_of_array TStorage.state self.new)) }
-        ensures refused { IfErr result (λ e. RefusesPuts
-            (erasures version (path_of_array self.old) (metadata_of_array self.old))
-            (refusal_of_storage e) (store_of_array TStorage.state self.old)
-            (store_of_array TStorage.state self.new)) }
+        ensures erases { ErasesDocuments TStorage.state version self.old self.new result }
         ensures count { OnOk result
             (Writes (erased_documents version (metadata_of_array self.old))
             (store_of_array TStorage.state self.old) (store_of_array TStorage.state self.new)) }
-        ensures kept { KeepsArray self.old self.new }
     {
         let puts = erasures_of_metadata(alloc, self.engine.path(), &self.metadata, version)?;
         self.put_all(alloc, puts)
@@ -127,12 +103,8 @@ impl<TStorage: WritableStorageTraits> Array<TStorage> {
         alloc: Global,
         puts: Vec<MetadataPut>,
     ) -> Result<(), StorageError>
-        ensures done { OnOk result (ArePut (map put_view puts.items)
-            (store_of_array TStorage.state self.old) (store_of_array TStorage.state self.new)) }
-        ensures refused { IfErr result (λ e. PutsFront (map put_view puts.items)
-            (refusal_of_storage e) (store_of_array TStorage.state self.old)
-            (store_of_array TStorage.state self.new)) }
-        ensures kept { KeepsArray self.old self.new }
+        ensures { PutsOrRefuses TStorage.state (ArePut (map put_view puts.items))
+            (PutsFront (map put_view puts.items)) self.old self.new result }
     {
         for put in puts {
             self.put(alloc, put)?;
@@ -142,6 +114,17 @@ impl<TStorage: WritableStorageTraits> Array<TStorage> {
 
     /// Puts the value at its key, or erases the key, by one writing call of the store.
     fn put(&mut self, alloc: Global, put: MetadataPut) -> Result<(), StorageError>
+        ensures { PutsOrRefuses TStorage.state (IsPut put.key put.value) RefusesCall self.old
+            self.new result }
+    {
+        match self.call_store(alloc, put) {
+            Ok(()) => Ok(()),
+            Err(error) => Err(write_refusal(error)),
+        }
+    }
+
+    /// Makes the writing call that puts the value at its key, or erases the key.
+    fn call_store(&mut self, alloc: Global, put: MetadataPut) -> Result<(), StorageError>
         ensures done { OnOk result (IsPut put.key put.value
             (store_of_array TStorage.state self.old) (store_of_array TStorage.state self.new)) }
         ensures refused { IfErr result (λ e. RefusesCall (refusal_of_storage e)

@@ -23,13 +23,7 @@ pub struct ArrayPartialDecoder<'a, TStorage> {
 }
 
 impl<TStorage: ReadableStorageTraits> Array<TStorage> {
-    ghost use Rattle.std.specs.Prelude.{◌≡◌, true, IfOk, IfErr, OnOk};
-    ghost use Rattle.zarrs_chunk_grid.specs.Grids.{has_box};
-    ghost use Rattle.zarrs_engine_calls.specs.ArgumentRefusals.{chunk_refusal};
-    ghost use Rattle.zarrs_engine_calls.specs.Refusals.{RefusesBy, refusal_of};
-    ghost use Rattle.zarrs.specs.Arrays.{layout_of_array, state_of_array};
-    ghost use Rattle.zarrs.specs.PartialEncoders.{MayDecodeAt, layout_of_decoder, state_of_decoder};
-    ghost use Rattle.zarrs.specs.PartialEncoders.{indices_of_decoder};
+    ghost use Rattle.zarrs.specs.PartialEncoders.{DecodesChunk};
 
     /// Returns the chunk with these indices, to read parts of it. The store is not asked.
     ///
@@ -40,15 +34,7 @@ impl<TStorage: ReadableStorageTraits> Array<TStorage> {
         alloc: Global,
         chunk_indices: &[u64],
     ) -> Result<ArrayPartialDecoder<'_, TStorage>, ArrayError>
-        ensures layout { IfOk result
-            (λ decoder. layout_of_decoder decoder ≡ layout_of_array self.now) }
-        ensures state { IfOk result (λ decoder. state_of_decoder TStorage.state decoder
-            ≡ state_of_array TStorage.state self.now) }
-        ensures chunk { IfOk result (λ decoder. indices_of_decoder decoder ≡ chunk_indices.now) }
-        ensures accepted { OnOk result
-            (has_box (layout_of_array self.now).grid chunk_indices.now ≡ true) }
-        ensures refused { IfErr result (λ e. RefusesBy
-            (chunk_refusal (layout_of_array self.now) chunk_indices.now) (refusal_of e)) }
+        ensures { DecodesChunk TStorage.state chunk_indices.now self.now result }
     {
         self.partial_decoder_opt(alloc, chunk_indices, &CodecOptions::default())
     }
@@ -63,15 +49,7 @@ impl<TStorage: ReadableStorageTraits> Array<TStorage> {
         chunk_indices: &[u64],
         _options: &CodecOptions,
     ) -> Result<ArrayPartialDecoder<'_, TStorage>, ArrayError>
-        ensures layout { IfOk result
-            (λ decoder. layout_of_decoder decoder ≡ layout_of_array self.now) }
-        ensures state { IfOk result (λ decoder. state_of_decoder TStorage.state decoder
-            ≡ state_of_array TStorage.state self.now) }
-        ensures chunk { IfOk result (λ decoder. indices_of_decoder decoder ≡ chunk_indices.now) }
-        ensures accepted { OnOk result
-            (has_box (layout_of_array self.now).grid chunk_indices.now ≡ true) }
-        ensures refused { IfErr result (λ e. RefusesBy
-            (chunk_refusal (layout_of_array self.now) chunk_indices.now) (refusal_of e)) }
+        ensures { DecodesChunk TStorage.state chunk_indices.now self.now result }
     {
         let decoder = self.engine.partial_decoder(alloc, chunk_indices)?;
         Ok(ArrayPartialDecoder { decoder })
@@ -80,13 +58,12 @@ impl<TStorage: ReadableStorageTraits> Array<TStorage> {
 
 impl<TStorage: ReadableStorageTraits> ArrayPartialDecoder<'_, TStorage> {
     ghost use Rattle.std.specs.Prelude.{◌≡◌, ◌↔◌, true, IfOk, IfErr, IsTrue};
-    ghost use Rattle.zarrs_data_type.specs.ArrayData.{data_of};
     ghost use Rattle.zarrs_engine_calls.specs.Changes.{IsPresent};
     ghost use Rattle.zarrs_engine_calls.specs.Refusals.{RefusesBy, key_refusal, refusal_of};
-    ghost use Rattle.zarrs_engine_calls.specs.Step.{RetrievesPart, RefusesRetrievePart};
     ghost use Rattle.zarrs_engine.specs.PartialDecoders.{DecodesPartInto};
     ghost use Rattle.zarrs.specs.PartialEncoders.{MayDecodeAt, layout_of_decoder, state_of_decoder};
-    ghost use Rattle.zarrs.specs.PartialEncoders.{store_of_decoder, indices_of_decoder};
+    ghost use Rattle.zarrs.specs.PartialEncoders.{DecodesPart, store_of_decoder};
+    ghost use Rattle.zarrs.specs.PartialEncoders.{indices_of_decoder};
 
     /// Returns the cells of a part of the chunk, in row-major order. The part is seen from the origin of the chunk. If the
     /// chunk is absent, they are fill. No option changes what is read.
@@ -101,12 +78,7 @@ impl<TStorage: ReadableStorageTraits> ArrayPartialDecoder<'_, TStorage> {
         options: &CodecOptions,
     ) -> Result<ArrayBytes<'static>, ArrayError>
         requires { MayDecodeAt TStorage.state (R.region chunk_subset.now) self.now }
-        ensures cells { IfOk result (λ made. RetrievesPart (layout_of_decoder self.now)
-            (indices_of_decoder self.now) (R.region chunk_subset.now) (data_of made)
-            (store_of_decoder TStorage.state self.now)) }
-        ensures refused { IfErr result (λ e. RefusesRetrievePart (layout_of_decoder self.now)
-            (indices_of_decoder self.now) (R.region chunk_subset.now) (refusal_of e)
-            (store_of_decoder TStorage.state self.now)) }
+        ensures { DecodesPart TStorage.state (R.region chunk_subset.now) self.now result }
     {
         let chunk_subset = chunk_subset.to_array_subset(alloc)?;
         self.decoder.partial_decode(alloc, &chunk_subset, options)

@@ -18,7 +18,7 @@ fn memory_sizes(alloc: Global, extents: &[u64]) -> Result<Vec<usize>, AllocError
 }
 
 impl<TStorage> Array<TStorage> {
-    ghost use Rattle.std.specs.Prelude.{◌≡◌, None, length, IfOk, IfErr, OnOk, IfSome, IfNone};
+    ghost use Rattle.std.specs.Prelude.{◌≡◌, length, IfOk, IfErr, OnOk, IfSome, IfNone};
     ghost use Rattle.std.specs.Prelude.{IsOkUnless};
     ghost use Rattle.zarrs_subset.specs.Regions.{box_of, bound_to, box_at_origin};
     ghost use Rattle.zarrs_chunk_grid.specs.Axes.{sizes_of};
@@ -27,6 +27,7 @@ impl<TStorage> Array<TStorage> {
     ghost use Rattle.zarrs_engine_calls.specs.Refusals.{RefusesBy, refusal_of};
     ghost use Rattle.zarrs_creation.specs.Meanings.{shape_said};
     ghost use Rattle.zarrs.specs.Queries.{query_refusal, chunks_refusal, bounded_chunks_refusal};
+    ghost use Rattle.zarrs.specs.Queries.{Answers};
     ghost use Rattle.zarrs.specs.Arrays.{layout_of_array, metadata_of_array};
 
     /// Returns the key of the chunk with these indices, of which there is one for each dimension.
@@ -53,12 +54,8 @@ impl<TStorage> Array<TStorage> {
         alloc: Global,
         chunk_indices: &[u64],
     ) -> Result<ArraySubset, ArrayError>
-        ensures region { IfOk result
-            (λ b. box_of b ≡ box_at (layout_of_array self.now).grid chunk_indices.now) }
-        ensures accepted { OnOk result
-            (chunk_refusal (layout_of_array self.now) chunk_indices.now ≡ None) }
-        ensures refused { IfErr result (λ e. RefusesBy
-            (chunk_refusal (layout_of_array self.now) chunk_indices.now) (refusal_of e)) }
+        ensures { Answers (chunk_refusal (layout_of_array self.now) chunk_indices.now)
+            (λ b. box_of b ≡ box_at (layout_of_array self.now).grid chunk_indices.now) result }
     {
         self.engine.layout().chunk_box(alloc, chunk_indices)
     }
@@ -72,12 +69,9 @@ impl<TStorage> Array<TStorage> {
         alloc: Global,
         chunk_indices: &[u64],
     ) -> Result<ArrayIndices, ArrayError>
-        ensures origin { IfOk result (λ origin. origin.items
-            ≡ (box_at (layout_of_array self.now).grid chunk_indices.now).start) }
-        ensures accepted { OnOk result
-            (chunk_refusal (layout_of_array self.now) chunk_indices.now ≡ None) }
-        ensures refused { IfErr result (λ e. RefusesBy
-            (chunk_refusal (layout_of_array self.now) chunk_indices.now) (refusal_of e)) }
+        ensures { Answers (chunk_refusal (layout_of_array self.now) chunk_indices.now) (λ origin.
+            origin.items ≡
+            (box_at (layout_of_array self.now).grid chunk_indices.now).start) result }
     {
         let chunk = self.chunk_subset(alloc, chunk_indices)?;
         Ok(chunk.into_start())
@@ -92,12 +86,9 @@ impl<TStorage> Array<TStorage> {
         alloc: Global,
         chunk_indices: &[u64],
     ) -> Result<ChunkShape, ArrayError>
-        ensures shape { IfOk result (λ shape. sizes_of shape.items
-            ≡ (box_at (layout_of_array self.now).grid chunk_indices.now).shape) }
-        ensures accepted { OnOk result
-            (chunk_refusal (layout_of_array self.now) chunk_indices.now ≡ None) }
-        ensures refused { IfErr result (λ e. RefusesBy
-            (chunk_refusal (layout_of_array self.now) chunk_indices.now) (refusal_of e)) }
+        ensures { Answers (chunk_refusal (layout_of_array self.now) chunk_indices.now) (λ shape.
+            sizes_of shape.items ≡ (box_at (layout_of_array self.now).grid chunk_indices.now).shape)
+            result }
     {
         match self.engine.chunk_grid().chunk_shape(alloc, chunk_indices) {
             Ok(Some(shape)) => Ok(shape),
@@ -119,12 +110,8 @@ impl<TStorage> Array<TStorage> {
         alloc: Global,
         chunk_indices: &[u64],
     ) -> Result<Vec<usize>, ArrayError>
-        ensures shape { IfOk result (λ shape. shape.items
-            ≡ (box_at (layout_of_array self.now).grid chunk_indices.now).shape) }
-        ensures accepted { OnOk result
-            (chunk_refusal (layout_of_array self.now) chunk_indices.now ≡ None) }
-        ensures refused { IfErr result (λ e. RefusesBy
-            (chunk_refusal (layout_of_array self.now) chunk_indices.now) (refusal_of e)) }
+        ensures { Answers (chunk_refusal (layout_of_array self.now) chunk_indices.now) (λ shape.
+            shape.items ≡ (box_at (layout_of_array self.now).grid chunk_indices.now).shape) result }
     {
         let chunk = self.chunk_subset(alloc, chunk_indices)?;
         let shape = memory_sizes(alloc, chunk.shape())?;
@@ -140,13 +127,9 @@ impl<TStorage> Array<TStorage> {
         alloc: Global,
         chunk_indices: &[u64],
     ) -> Result<ArraySubset, ArrayError>
-        ensures region { IfOk result (λ b. box_of b
-            ≡ bound_to (box_at (layout_of_array self.now).grid chunk_indices.now)
-            (shape_said (metadata_of_array self.now))) }
-        ensures accepted { OnOk result
-            (chunk_refusal (layout_of_array self.now) chunk_indices.now ≡ None) }
-        ensures refused { IfErr result (λ e. RefusesBy
-            (chunk_refusal (layout_of_array self.now) chunk_indices.now) (refusal_of e)) }
+        ensures { Answers (chunk_refusal (layout_of_array self.now) chunk_indices.now) (λ b. box_of
+            b ≡ bound_to (box_at (layout_of_array self.now).grid chunk_indices.now)
+            (shape_said (metadata_of_array self.now))) result }
     {
         let chunk = self.chunk_subset(alloc, chunk_indices)?;
         match chunk.bound(alloc, self.shape()) {
@@ -164,12 +147,9 @@ impl<TStorage> Array<TStorage> {
         alloc: Global,
         chunks: &R,
     ) -> Result<ArraySubset, ArrayError>
-        ensures region { IfOk result (λ b. box_of b
-            ≡ chunks_box (layout_of_array self.now).grid (R.region chunks.now)) }
-        ensures accepted { OnOk result
-            (chunks_refusal (layout_of_array self.now) (R.region chunks.now) ≡ None) }
-        ensures refused { IfErr result (λ e. RefusesBy
-            (chunks_refusal (layout_of_array self.now) (R.region chunks.now)) (refusal_of e)) }
+        ensures { Answers (chunks_refusal (layout_of_array self.now) (R.region chunks.now))
+            (λ b. box_of b ≡ chunks_box (layout_of_array self.now).grid (R.region chunks.now))
+            result }
     {
         let chunks = chunks.to_array_subset(alloc)?;
         self.range_subset(alloc, &chunks)
@@ -177,12 +157,9 @@ impl<TStorage> Array<TStorage> {
 
     /// Does what `chunks_subset` does.
     fn range_subset(&self, alloc: Global, chunks: &ArraySubset) -> Result<ArraySubset, ArrayError>
-        ensures region { IfOk result (λ b. box_of b
-            ≡ chunks_box (layout_of_array self.now).grid (box_of chunks.now)) }
-        ensures accepted { OnOk result
-            (chunks_refusal (layout_of_array self.now) (box_of chunks.now) ≡ None) }
-        ensures refused { IfErr result (λ e. RefusesBy
-            (chunks_refusal (layout_of_array self.now) (box_of chunks.now)) (refusal_of e)) }
+        ensures { Answers (chunks_refusal (layout_of_array self.now) (box_of chunks.now))
+            (λ b. box_of b ≡ chunks_box (layout_of_array self.now).grid (box_of chunks.now))
+            result }
     {
         if chunks.is_empty() {
             return Ok(ArraySubset::new_empty(alloc, chunks.dimensionality())?);
@@ -202,14 +179,10 @@ impl<TStorage> Array<TStorage> {
         alloc: Global,
         chunks: &R,
     ) -> Result<ArraySubset, ArrayError>
-        ensures region { IfOk result (λ b. box_of b
-            ≡ bound_to (chunks_box (layout_of_array self.now).grid (R.region chunks.now))
-            (shape_said (metadata_of_array self.now))) }
-        ensures accepted { OnOk result
-            (bounded_chunks_refusal (layout_of_array self.now) (R.region chunks.now) ≡ None) }
-        ensures refused { IfErr result (λ e. RefusesBy
-            (bounded_chunks_refusal (layout_of_array self.now) (R.region chunks.now))
-            (refusal_of e)) }
+        ensures { Answers (bounded_chunks_refusal (layout_of_array self.now) (R.region chunks.now))
+            (λ b. box_of b ≡ bound_to
+            (chunks_box (layout_of_array self.now).grid (R.region chunks.now))
+            (shape_said (metadata_of_array self.now))) result }
     {
         let region = self.chunks_subset(alloc, chunks)?;
         let (got, expected) = (chunks.dimensionality(), self.dimensionality());

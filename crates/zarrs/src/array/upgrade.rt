@@ -47,15 +47,14 @@ impl<TStorage> Array<TStorage> {
 }
 
 impl<TStorage: WritableStorageTraits> Array<TStorage> {
-    ghost use Rattle.std.specs.Prelude.{◌≡◌, Ok, IfErr, OnOk, OnErr};
+    ghost use Rattle.std.specs.Prelude.{OnOk};
     ghost use Rattle.zarrs_engine_calls.specs.Laws.{HaveEqualContent};
-    ghost use Rattle.zarrs_engine_calls.specs.Refusals.{refusal_of_storage};
-    ghost use Rattle.zarrs_creation.specs.Meanings.{as_v3};
     ghost use Rattle.zarrs.specs.Arrays.{metadata_of_array, metadata_options_of_array};
     ghost use Rattle.zarrs.specs.Arrays.{layout_of_array, meaning_of_array, path_of_array};
-    ghost use Rattle.zarrs.specs.Arrays.{store_of_array, KeepsArray, KeepsAllButDocument};
+    ghost use Rattle.zarrs.specs.Arrays.{store_of_array};
     ghost use Rattle.zarrs.specs.Counts.{Writes, upgrade_writes};
-    ghost use Rattle.zarrs.specs.Upgrade.{UpgradesMetadata, RefusesUpgrade, StaysOpen};
+    ghost use Rattle.zarrs.specs.MetadataCalls.{UpgradesDocuments};
+    ghost use Rattle.zarrs.specs.Upgrade.{StaysOpen};
 
     /// Turns the metadata of a V2 array into V3 metadata, by three writing calls of the store: the V3 document, as the
     /// array's own metadata options show it, is stored at the key `zarr.json` of the path; then `.zarray` is erased, and
@@ -63,44 +62,26 @@ impl<TStorage: WritableStorageTraits> Array<TStorage> {
     /// and no key of a chunk changes. Of a V3 array nothing is done, and the store is not called.
     ///
     /// # Errors
-    /// If the store refuses, and `OutOfMemory`. A front of the three calls is done then, and the array has the metadata
-    /// that it had. Accepted or refused, an array of the same parts opens at the path afterwards, if the store had no
-    /// `zarr.json` and its V2 documents opened to this array, if the V3 document reads again, and if the store then
-    /// refuses no key of the metadata.
+    /// If the store refuses, and `OutOfMemory`; no `InvalidMetadata`. A front of the three calls is done then, and the
+    /// array has the metadata that it had. Accepted or refused, an array of the same parts opens at the path afterwards,
+    /// if the store had no `zarr.json` and its V2 documents opened to this array, if the V3 document reads again, and if
+    /// the store then refuses no key of the metadata.
     pub fn upgrade_metadata(&mut self, alloc: Global) -> Result<(), StorageError>
-        ensures done { OnOk result (UpgradesMetadata (metadata_options_of_array self.old)
-            (path_of_array self.old) (metadata_of_array self.old)
-            (store_of_array TStorage.state self.old) (store_of_array TStorage.state self.new)) }
-        ensures metadata { OnOk result
-            (as_v3 (metadata_of_array self.old) ≡ Ok (metadata_of_array self.new)) }
+        ensures upgrades { UpgradesDocuments TStorage.state self.old self.new result }
         ensures count { OnOk result (Writes (upgrade_writes (metadata_of_array self.old))
             (store_of_array TStorage.state self.old) (store_of_array TStorage.state self.new)) }
-        ensures refused { IfErr result (λ e. RefusesUpgrade (metadata_options_of_array self.old)
-            (path_of_array self.old) (metadata_of_array self.old) (refusal_of_storage e)
-            (store_of_array TStorage.state self.old) (store_of_array TStorage.state self.new)) }
-        ensures untouched { OnErr result (KeepsArray self.old self.new) }
         ensures opens { StaysOpen (metadata_options_of_array self.old) (path_of_array self.old)
             (metadata_of_array self.old) (meaning_of_array self.old)
             (store_of_array TStorage.state self.old) (store_of_array TStorage.state self.new) }
         ensures content { HaveEqualContent (layout_of_array self.old)
             (store_of_array TStorage.state self.old) (store_of_array TStorage.state self.new) }
-        ensures kept { KeepsAllButDocument self.old self.new }
     {
         self.upgrade(alloc)
     }
 
     /// Does what `upgrade_metadata` does.
     fn upgrade(&mut self, alloc: Global) -> Result<(), StorageError>
-        ensures done { OnOk result (UpgradesMetadata (metadata_options_of_array self.old)
-            (path_of_array self.old) (metadata_of_array self.old)
-            (store_of_array TStorage.state self.old) (store_of_array TStorage.state self.new)) }
-        ensures metadata { OnOk result
-            (as_v3 (metadata_of_array self.old) ≡ Ok (metadata_of_array self.new)) }
-        ensures refused { IfErr result (λ e. RefusesUpgrade (metadata_options_of_array self.old)
-            (path_of_array self.old) (metadata_of_array self.old) (refusal_of_storage e)
-            (store_of_array TStorage.state self.old) (store_of_array TStorage.state self.new)) }
-        ensures untouched { OnErr result (KeepsArray self.old self.new) }
-        ensures kept { KeepsAllButDocument self.old self.new }
+        ensures { UpgradesDocuments TStorage.state self.old self.new result }
     {
         let ArrayMetadata::V2(document) = &self.metadata else {
             return Ok(());

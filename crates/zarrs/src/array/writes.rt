@@ -1,6 +1,5 @@
 //! Stores of an array, which pass to its engine. They take array bytes, or a list of the values of the cells.
-ghost use Rattle.std.specs.Prelude.{◌≡◌, None, IfErr, OnOk};
-ghost use Rattle.zarrs_engine_calls.specs.Refusals.{RefusesBy, refusal_of};
+ghost use Rattle.zarrs.specs.Queries.{Tests};
 ghost use Rattle.zarrs.specs.Typed.{number_refusal};
 
 use super::Array;
@@ -16,9 +15,7 @@ use zarrs_subset::{ArraySubset, ArraySubsetTraits, IncompatibleDimensionalityErr
 /// # Errors
 /// E8 if it does not.
 fn check_number<R: ArraySubsetTraits>(chunks: &R) -> Result<(), ArrayError>
-    ensures accepted { OnOk result (number_refusal (R.region chunks.now) ≡ None) }
-    ensures refused { IfErr result (λ e. RefusesBy (number_refusal (R.region chunks.now))
-        (refusal_of e)) }
+    ensures { Tests (number_refusal (R.region chunks.now)) result }
 {
     match chunks.num_elements() {
         Ok(_) => Ok(()),
@@ -27,10 +24,9 @@ fn check_number<R: ArraySubsetTraits>(chunks: &R) -> Result<(), ArrayError>
 }
 
 impl<TStorage> Array<TStorage> {
-    ghost use Rattle.std.specs.Prelude.{◌≡◌, None, IfErr, OnOk};
     ghost use Rattle.zarrs_subset.specs.Regions.{box_of};
-    ghost use Rattle.zarrs_engine_calls.specs.Refusals.{RefusesBy, refusal_of};
     ghost use Rattle.zarrs.specs.Arrays.{layout_of_array};
+    ghost use Rattle.zarrs.specs.Queries.{Tests};
     ghost use Rattle.zarrs.specs.Typed.{place_refusal, chunk_part_refusal};
 
     /// Tests whether a part lies in the chunk with these indices.
@@ -44,10 +40,8 @@ impl<TStorage> Array<TStorage> {
         chunk_indices: &[u64],
         part: &ArraySubset,
     ) -> Result<(), ArrayError>
-        ensures accepted { OnOk result (place_refusal (layout_of_array self.now) chunk_indices.now
-            (box_of part.now) ≡ None) }
-        ensures refused { IfErr result (λ e. RefusesBy (place_refusal (layout_of_array self.now)
-            chunk_indices.now (box_of part.now)) (refusal_of e)) }
+        ensures { Tests
+            (place_refusal (layout_of_array self.now) chunk_indices.now (box_of part.now)) result }
     {
         let dimensions = self.dimensionality();
         if chunk_indices.len() != dimensions {
@@ -67,10 +61,9 @@ impl<TStorage> Array<TStorage> {
         chunk_indices: &[u64],
         part: &ArraySubset,
     ) -> Result<(), ArrayError>
-        ensures accepted { OnOk result (chunk_part_refusal (layout_of_array self.now)
-            chunk_indices.now (box_of part.now) ≡ None) }
-        ensures refused { IfErr result (λ e. RefusesBy (chunk_part_refusal
-            (layout_of_array self.now) chunk_indices.now (box_of part.now)) (refusal_of e)) }
+        ensures { Tests
+            (chunk_part_refusal (layout_of_array self.now) chunk_indices.now (box_of part.now))
+            result }
     {
         let layout = self.engine.layout();
         let chunk = layout.chunk_box(alloc, chunk_indices)?;
@@ -85,10 +78,9 @@ impl<TStorage> Array<TStorage> {
         chunk_indices: &[u64],
         chunk_subset: &R,
     ) -> Result<(), ArrayError>
-        ensures accepted { OnOk result (place_refusal (layout_of_array self.now) chunk_indices.now
-            (R.region chunk_subset.now) ≡ None) }
-        ensures refused { IfErr result (λ e. RefusesBy (place_refusal (layout_of_array self.now)
-            chunk_indices.now (R.region chunk_subset.now)) (refusal_of e)) }
+        ensures { Tests
+            (place_refusal (layout_of_array self.now) chunk_indices.now (R.region chunk_subset.now))
+            result }
     {
         let part = chunk_subset.to_array_subset(alloc)?;
         self.check_part(alloc, chunk_indices, &part)
@@ -96,11 +88,11 @@ impl<TStorage> Array<TStorage> {
 }
 
 impl<TStorage: WritableStorageTraits> Array<TStorage> {
-    ghost use Rattle.std.specs.Prelude.{◌≡◌, false, None, IfErr, OnOk};
+    ghost use Rattle.std.specs.Prelude.{false};
     ghost use Rattle.zarrs_codec.specs.Options.{stores_empty_chunks};
     ghost use Rattle.zarrs_engine_calls.specs.ArgumentRefusals.{region_refusal};
-    ghost use Rattle.zarrs_engine_calls.specs.Refusals.{RefusesBy, refusal_of};
     ghost use Rattle.zarrs.specs.Arrays.{layout_of_array, state_of_array};
+    ghost use Rattle.zarrs.specs.Queries.{Tests};
     ghost use Rattle.zarrs.specs.Outcomes.{StoresChunkOrRefuses, StoresChunksOrRefuses};
     ghost use Rattle.zarrs.specs.Outcomes.{StoresPartAs, StoresPartOrRefuses, MayStorePart};
     ghost use Rattle.zarrs.specs.Outcomes.{StoresRegionAs, StoresRegionOrRefuses, MayStoreRegion};
@@ -114,10 +106,8 @@ impl<TStorage: WritableStorageTraits> Array<TStorage> {
         alloc: Global,
         array_subset: &R,
     ) -> Result<(), ArrayError>
-        ensures accepted { OnOk result (region_refusal (layout_of_array self.now)
-            (state_of_array TStorage.state self.now).shape (R.region array_subset.now) ≡ None) }
-        ensures refused { IfErr result (λ e. RefusesBy (region_refusal (layout_of_array self.now)
-            (state_of_array TStorage.state self.now).shape (R.region array_subset.now)) (refusal_of e)) }
+        ensures { Tests (region_refusal (layout_of_array self.now)
+            (state_of_array TStorage.state self.now).shape (R.region array_subset.now)) result }
     {
         let region = array_subset.to_array_subset(alloc)?;
         let _ = self.engine.layout().chunks_met(alloc, &region)?;

@@ -10,4 +10,4 @@ retrieve_encoded_chunk-requires-clause-dimensions c =
 pub returns-clause-decodes : goal.returns-clause-decodes
 returns-clause-decodes c =
     let read = c.in_ok-_cells.ensures.cells in
-    held_decodes (layout_of_array c.args.array.now) c.an_array_is_its_metadata.ensures.lawful c.args.chunk_indices.now read.0 _ read.1 (λ bytes. bytes.items) c.in_ok-encoded.encoded c.in_ok-encoded.ensures.value
+    held_decodes (layout_of_array c.args.array.now) c.an_array_is_its_metadata.ensures.lawful c.args.chunk_indices.now read.0 _ read.1 (λ bytes. bytes.items) c.in_ok-encoded.encoded c.in_ok-encoded.ensures.answer

@@ -25,8 +25,8 @@ returns c = λ again again_v3.
     let path = path_of_array array in
     let parts = meaning_of_array array in
     let d = document_v2_view c.args.document in
-    let kept = c.store_metadata.ensures.kept in
-    let later = c.upgrade_metadata.ensures.kept in
+    let kept = c.store_metadata.ensures.stores.kept in
+    let later = c.upgrade_metadata.ensures.upgrades.kept in
     let m-is = ap metadata_view kept.metadata ∙ made.ensures.metadata in
     let o-is = ap options_view kept.metadata_options ∙ made.ensures.options.metadata in
     let p-is = ap (λ l. l.path) kept.layout_kept in
@@ -34,9 +34,9 @@ returns c = λ again again_v3.
     let valid = subst (λ (p : List ℕ). is_node_path p ≡ true) c.path.ensures c.as_str-text.ensures.valid in
     let says = subst (λ (m : MetadataData). creation m ≡ Ok parts) made.ensures.metadata c.an_array_is_its_metadata.ensures.parts in
     let empty = ap (λ (s : MemoryState). map.get s.values (v3_key path)) (made.ensures.storage ∙ c.new.ensures) ∙ map.get-empty _ (v3_key path) in
-    let puts = subst (λ (o : MetadataOptionsData). StoresMetadata o path (v2 d) old stored) made.ensures.options.metadata (subst (λ (m : MetadataData). StoresMetadata (metadata_options_of_array array) path m old stored) made.ensures.metadata c.in_ok-store_metadata.ensures.done) in
+    let puts = subst (λ (o : MetadataOptionsData). StoresMetadata o path (v2 d) old stored) made.ensures.options.metadata (subst (λ (m : MetadataData). StoresMetadata (metadata_options_of_array array) path m old stored) made.ensures.metadata c.in_ok-store_metadata.ensures.stores.done) in
     let upgraded = subst (λ (o : MetadataOptionsData). UpgradesMetadata o path (v2 d) stored new) o-is
-    (subst (λ (p : List ℕ). UpgradesMetadata (metadata_options_of_array mid) p (v2 d) stored new) p-is (subst (λ (m : MetadataData). UpgradesMetadata (metadata_options_of_array mid) (path_of_array mid) m stored new) m-is c.in_ok-upgrade_metadata.ensures.done)) in
+    (subst (λ (p : List ℕ). UpgradesMetadata (metadata_options_of_array mid) p (v2 d) stored new) p-is (subst (λ (m : MetadataData). UpgradesMetadata (metadata_options_of_array mid) (path_of_array mid) m stored new) m-is c.in_ok-upgrade_metadata.ensures.upgrades.done)) in
     let stays = subst (λ (o : MetadataOptionsData). StaysOpen o path (v2 d) parts stored new) o-is
     (subst (λ (p : List ℕ). StaysOpen (metadata_options_of_array mid) p (v2 d) parts stored new) p-is
     (subst (λ (m : MetadataData). StaysOpen (metadata_options_of_array mid) (path_of_array mid) m parts stored new) m-is

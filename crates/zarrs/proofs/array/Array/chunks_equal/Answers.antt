@@ -1,35 +1,19 @@
-use Rattle.std.proofs.Common.{IfOk, IfErr, subst}
-use Rattle.std.specs.Bool.{OnFalse, OnTrue}
+use Rattle.std.proofs.Common.{subst}
 use Rattle.zarrs_subset.specs.Regions.{Box, positions}
-use Rattle.zarrs_engine_calls.specs.Refusals.{refusal_of}
-use Rattle.zarrs_engine.specs.Comparisons.{ComparesContent, DifferInChunk, HoldSameChunks, RefusesComparison}
 use Rattle.zarrs.specs.Arrays.{layout_of_array, store_of_array}
+use Rattle.zarrs.specs.Outcomes.{ComparesChunks}
 use Rattle.zarrs.proofs.array.Array.chunks_equal.Goals as goal
 
-pub returns-clause-equal : goal.returns-clause-equal
-returns-clause-equal g c =
+pub returns : goal.returns
+returns g c =
     let a = c.args.self.now in
     let b = c.args.other.now in
-    subst (λ (r : Box). IfOk c.chunks_equal.result (λ equal. OnTrue equal (HoldSameChunks (layout_of_array a) (layout_of_array b) (store_of_array g.TStorage.ReadableStorageTraits.state a) (store_of_array g.TStorage2.ReadableStorageTraits.state b) (positions r))))
-    c.in_ok-chunks.ensures c.chunks_equal.ensures.equal
-
-pub returns-clause-different : goal.returns-clause-different
-returns-clause-different g c =
-    let a = c.args.self.now in
-    let b = c.args.other.now in
-    subst (λ (r : Box). IfOk c.chunks_equal.result (λ equal. OnFalse equal (DifferInChunk (layout_of_array a) (layout_of_array b) (store_of_array g.TStorage.ReadableStorageTraits.state a) (store_of_array g.TStorage2.ReadableStorageTraits.state b) (positions r))))
-    c.in_ok-chunks.ensures c.chunks_equal.ensures.different
-
-pub returns-clause-content : goal.returns-clause-content
-returns-clause-content g c =
-    let a = c.args.self.now in
-    let b = c.args.other.now in
-    subst (λ (r : Box). IfOk c.chunks_equal.result (λ equal. ComparesContent (layout_of_array a) (layout_of_array b) (store_of_array g.TStorage.ReadableStorageTraits.state a) (store_of_array g.TStorage2.ReadableStorageTraits.state b) (positions r) equal))
-    c.in_ok-chunks.ensures c.chunks_equal.ensures.content
-
-pub returns-clause-refused : goal.returns-clause-refused
-returns-clause-refused g c =
-    let a = c.args.self.now in
-    let b = c.args.other.now in
-    subst (λ (r : Box). IfErr c.chunks_equal.result (λ e. RefusesComparison (layout_of_array a) (layout_of_array b) (store_of_array g.TStorage.ReadableStorageTraits.state a) (store_of_array g.TStorage2.ReadableStorageTraits.state b) (positions r) (refusal_of e)))
-    c.in_ok-chunks.ensures c.chunks_equal.ensures.refused
+    let one = store_of_array g.TStorage.ReadableStorageTraits.state a in
+    let two = store_of_array g.TStorage2.ReadableStorageTraits.state b in
+    let compared = c.chunks_equal in
+    subst (λ (r : Box). ComparesChunks (layout_of_array a) (layout_of_array b) one two (positions r) compared.result) c.in_ok-chunks.ensures (record {
+      equal = compared.ensures.equal;
+      different = compared.ensures.different;
+      content = compared.ensures.content;
+      refused = compared.ensures.refused;
+    })

@@ -7,8 +7,8 @@ use Rattle.zarrs.specs.Puts.{PutsFront}
 use Rattle.zarrs.proofs.Puts.{Putting, put_next, put_refused}
 use Rattle.zarrs.proofs.array.Array.put_all.Goals as goal
 
-pub returns-in_err-put-clause-refused : goal.returns-in_err-put-clause-refused
-returns-in_err-put-clause-refused g c =
+pub returns-in_err-put : goal.returns-in_err-put
+returns-in_err-put g c =
     let state = g.TStorage.ReadableStorageTraits.state in
     let puts = map put_view c.args.puts.items in
     let left = map put_view (into_iter_items c.next.new.self) in

@@ -7,7 +7,7 @@ use Rattle.zarrs_engine_calls.specs.Refusals.{refusal_of_storage}
 use Rattle.zarrs.specs.Puts.{RefusesCall}
 use Rattle.zarrs.proofs.Puts.{call_refused}
 use Rattle.zarrs.proofs.WritingCalls.{put_set, put_erase, any_error}
-use Rattle.zarrs.proofs.array.Array.put.Goals as goal
+use Rattle.zarrs.proofs.array.Array.call_store.Goals as goal
 
 pub returns-in-Some-clause-done : goal.returns-in-Some-clause-done
 returns-in-Some-clause-done g c =
