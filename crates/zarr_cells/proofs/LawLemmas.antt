@@ -8,7 +8,7 @@ use Rattle.zarr_cells.specs.Lines.{cells_in, WritesCells, ReadsCells}
 use Rattle.zarr_cells.specs.Laws.{LinesAreReadBack, RawIsReadBack}
 
 -- as many bytes as the text has are the text
-pub front_read : (text more bytes : List ℕ) (new : Option (List ℕ)) → length bytes ≡ length text → Consumes (Some (text ++ more)) new bytes → (bytes ≡ text) × (new ≡ Some more)
+front_read : (text more bytes : List ℕ) (new : Option (List ℕ)) → length bytes ≡ length text → Consumes (Some (text ++ more)) new bytes → (bytes ≡ text) × (new ≡ Some more)
 front_read text more bytes None same reads = absurd reads
 front_read text more bytes (Some left) same reads =
     let front : bytes ≡ text = sym (take-append_seam bytes left) ∙ ap (take (length bytes)) (sym reads) ∙ ap (λ n. take n (text ++ more)) same ∙ take-append_seam text more in

@@ -44,6 +44,16 @@ make_both places others bytes more bands rest first then = record {
       ∙ ap (λ (l : List ℕ). l ++ flat_map (λ (band : Band). band.bytes) rest) first.joined ∙ ap (λ (l : List ℕ). bytes ++ l) then.joined;
 }
 
+consumes_none : (held : Option (List ℕ)) → Consumes held held []
+consumes_none None = tt
+consumes_none (Some text) = refl
+
+consumes_both : (input middle left : Option (List ℕ)) (bytes more : List ℕ) → Consumes input middle bytes → Consumes middle left more → Consumes input left (bytes ++ more)
+consumes_both None middle left bytes more first then = tt
+consumes_both (Some text) None left bytes more first then = absurd first
+consumes_both (Some text) (Some rest) None bytes more first then = absurd then
+consumes_both (Some text) (Some rest) (Some last) bytes more first then = first ∙ ap (λ (l : List ℕ). bytes ++ l) then ∙ sym (append_assoc bytes more last)
+
 module _ {R : Type 0} (layout : Layout) where
   -- ---- cells that are read
 
@@ -119,16 +129,6 @@ module _ {R : Type 0} (layout : Layout) where
     make = make_both places others bytes more first.bands then.bands first.make then.make;
   }
 
-  consumes_none : (held : Option (List ℕ)) → Consumes held held []
-  consumes_none None = tt
-  consumes_none (Some text) = refl
-
-  consumes_both : (input middle left : Option (List ℕ)) (bytes more : List ℕ) → Consumes input middle bytes → Consumes middle left more → Consumes input left (bytes ++ more)
-  consumes_both None middle left bytes more first then = tt
-  consumes_both (Some text) None left bytes more first then = absurd first
-  consumes_both (Some text) (Some rest) None bytes more first then = absurd then
-  consumes_both (Some text) (Some rest) (Some last) bytes more first then = first ∙ ap (λ (l : List ℕ). bytes ++ l) then ∙ sym (append_assoc bytes more last)
-
   pub stored_none : (held : Option (List ℕ)) (store : DirectoryStore R) → StoresBytes layout [] held held store store
   stored_none held store = record { bytes = []; cells = places_none store; read = consumes_none held }
 
@@ -181,7 +181,7 @@ module _ {R : Type 0} (layout : Layout) where
               subst (λ (n : ℕ). ReadsLines form size width n column input left [] (first.bytes ++ then.bytes)) (sym count)
               (reads_both form size width (length places) (length others) column middle input between left first.bytes then.bytes first.ends first.read then.read);
           ends =
-              then.ends ∙ ap (λ (m : ℕ). column_after width m (length others)) first.ends ∙ sym (column_both width column (length places) (length others))
+              then.ends ∙ ap (λ (m : ℕ). column_after width m (length others)) first.ends ∙ sym (column_both form size width column (length places) (length others))
               ∙ ap (λ (n : ℕ). column_after width column n) (sym count);
         }
 
@@ -208,10 +208,11 @@ front_all P all left none front =
 
 -- what holds of a value that is there, and of none
 pub some_holds : {A : Type 0} (P : A → Type 0) (Q : Type 0) (found : Option A) (value : A) → found ≡ Some value → MatchOption found Q P → P value
-some_holds P Q found value is holds = subst (λ (f : Option A). MatchOption f Q P) is holds
+some_holds {A = A} P Q found value is holds = subst (λ (f : Option A). MatchOption f Q P) is holds
 
-pub none_holds : {A : Type 0} (P : A → Type 0) (Q : Type 0) (found : Option A) → found ≡ None → MatchOption found Q P → Q
-none_holds P Q found is holds = subst (λ (f : Option A). MatchOption f Q P) is holds
+pub none_holds : {A : Type 0} (P : A → Type 0) (Q : Type 0) (found : Option A) → ((value : A) → found ≡ Some value → ⊥) → MatchOption found Q P → Q
+none_holds P Q None not holds = holds
+none_holds P Q (Some value) not holds = absurd (not value refl)
 
 -- ---- one band, and the steps of these loops, whose array and directory are still those of the start
 

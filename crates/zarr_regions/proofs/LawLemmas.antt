@@ -11,7 +11,7 @@ use Rattle.std.proofs.lemmas.List.{length-take-le}
 use Rattle.std.proofs.lemmas.List.Elements.{All-head, All-tail}
 use Rattle.zarrs_data_type.specs.Kind.{Kind, element_size}
 use Rattle.zarrs_data_type.specs.Cell.{Cell}
-use Rattle.zarrs_data_type.specs.ArrayData.{fixed}
+use Rattle.zarrs_data_type.specs.ArrayData.{ArrayData, fixed, variable, optional}
 use Rattle.zarrs_data_type.specs.Cells.{cells}
 use Rattle.zarrs_data_type_bytes.proofs.Cells.{cells-parts}
 use Rattle.zarrs_data_type_bytes.proofs.Filled.{fits-fixed}
@@ -24,7 +24,7 @@ use Rattle.zarrs_directory.specs.declared.store.DirectoryStore.{DirectoryStore}
 use Rattle.zarr_cells.specs.declared.form.Form.{Form}
 use Rattle.zarr_cells.specs.Numbers.{bits_in, cell_of, cell_in, widened}
 use Rattle.zarr_cells.specs.Lines.{first_cell, cells_in, behind, next, joined, ending, is_first, is_last, word_in, ReadsCells as ReadsLines}
-use Rattle.zarr_cells.proofs.LawLemmas.{front_read, lines_back as lines_read}
+use Rattle.zarr_cells.specs.Laws.{LinesAreReadBack, RawIsReadBack}
 use Rattle.zarr_regions.specs.Cells.{Band, Make, IsRead, AreCells, WritesBytes, WritesLines, StoresBands, StoresPlaces, StoresBytes, StoresLines}
 use Rattle.zarr_regions.specs.Laws.{BytesArePutBack, LinesArePutBack}
 
@@ -52,7 +52,7 @@ sum_times p q size = omega arith
 
 all_sized : (size : ℕ) (bands : List Band) → All (IsSized size) bands
     → length (flat_map (λ (band : Band). band.bytes) bands) ≡ length (flat_map (λ (band : Band). positions band.region) bands) * size
-all_sized size [] each = refl
+all_sized size [] each = let none : 0 ≡ 0 * size = omega arith in none
 all_sized size (band ∷ bands) each =
     let rest = all_sized size bands (All-tail (IsSized size) band bands each) in
     let one = All-head (IsSized size) band bands each in
@@ -129,7 +129,10 @@ parts_sized (Some cell) (Some others) cells left size count is one more =
 module _ (form : Form) (size width : ℕ) where
   lines_sized : (count column : ℕ) (text cells left : List ℕ) → cells_in form size width count column text ≡ Some (cells, left) → length cells ≡ count * size
   unfolding lines_of
-  lines_sized zero column text cells left is = let none : [] ≡ cells = ap lines_of is in ap (λ (l : List ℕ). length l) (sym none)
+  lines_sized zero column text cells left is =
+      let none : [] ≡ cells = ap lines_of is in
+      let zeros : 0 ≡ 0 * size = omega arith in
+      ap (λ (l : List ℕ). length l) (sym none) ∙ zeros
   lines_sized (suc count) column text cells left is =
       parts_sized (first_cell form size width column text) (cells_in form size width count (next width column) (behind form size width column text)) cells left size count is
       (λ cell first.
@@ -142,21 +145,29 @@ same_count count other size some same = sym (mul-div_cancel count some) ∙ ap (
 
 -- ---- what is stored
 
+the_bytes : ArrayData → List ℕ
+the_bytes (fixed bytes) = bytes
+the_bytes (variable strings) = []
+the_bytes (optional mask inner) = []
+
 module _ {R : Type 0} (directory : Directory R) (old new : DirectoryStore R) where
-  pub bytes_back : BytesArePutBack directory old new
-  bytes_back layout other size places text more left same_kind is_size writes stores =
+  pub bytes_back : RawIsReadBack → BytesArePutBack directory old new
+  unfolding the_bytes
+  bytes_back law layout other size places text more left same_kind is_size writes stores =
       let read = read_sized layout size directory places writes.bytes is_size writes.cells in
       let stored = stored_sized other size places stores.bytes old new (ap element_size same_kind ∙ is_size) stores.cells in
       let count : length stores.bytes ≡ length text = stored ∙ sym read ∙ ap (λ (l : List ℕ). length l) (sym writes.written) in
-      let both : (stores.bytes ≡ text) × (left ≡ Some more) = front_read text more stores.bytes left count stores.read in
-      (both.0 ∙ writes.written, both.1)
+      let both =
+      law (fixed writes.bytes) (fixed stores.bytes) text more left (record { bytes = writes.bytes; are = refl; written = writes.written })
+      (record { bytes = stores.bytes; are = refl; count = count; read = stores.read }) in
+      (ap the_bytes both.0, both.1)
 
-  pub lines_back : LinesArePutBack directory old new
-  lines_back layout other form size width after ending places text more left same_kind is_size some writes stores =
+  pub lines_back : LinesAreReadBack → LinesArePutBack directory old new
+  lines_back law layout other form size width after ending places text more left same_kind is_size some writes stores =
       let read = read_sized layout size directory places writes.bytes is_size writes.cells in
       let lines : cells_in form size width writes.written.count 0 (text ++ []) ≡ Some (writes.bytes, []) =
       ap (λ (t : List ℕ). cells_in form size width writes.written.count 0 (t ++ [])) writes.written.written ∙ writes.written.reads [] in
       let count : writes.written.count ≡ length places =
       same_count writes.written.count (length places) size some (sym (lines_sized form size width writes.written.count 0 (text ++ []) writes.bytes [] lines) ∙ read) in
-      lines_read form size width 0 after writes.bytes stores.bytes text more left writes.written
+      law form size width 0 after writes.bytes stores.bytes text more left writes.written
       (subst (λ (n : ℕ). ReadsLines form size width n 0 (Some (text ++ more)) left [] stores.bytes) (sym count) stores.read)

@@ -184,13 +184,24 @@ fn store_npy<R: Read>(
     Ok(())
 }
 
+/// Returns whether the line that is next is blank.
+fn is_blank<R: BufRead>(alloc: Global, input: &mut R) -> Result<bool, Refusal> {
+    let mut line = Vec::new(alloc);
+    input.read_until(b'\n', &mut line)?;
+    Ok(line.trim_ascii().is_empty())
+}
+
+/// Returns whether nothing is left.
+fn is_at_end<R: Read>(input: &mut R) -> Result<bool, Refusal> {
+    let mut byte = [0u8; 1];
+    Ok(input.read(&mut byte)? == 0)
+}
+
 /// Refuses input that is left over, but for blanks behind lines.
 fn need_end<R: BufRead>(alloc: Global, input: &mut R, layout: Layout) -> Result<(), Refusal> {
-    let mut line = Vec::new(alloc);
-    let _size = input.read_until(b'\n', &mut line)?;
     let is_end = match layout {
-        Layout::Lines => line.trim_ascii().is_empty(),
-        _ => line.is_empty(),
+        Layout::Lines => is_blank(alloc, input)?,
+        _ => is_at_end(input)?,
     };
     if is_end {
         return Ok(());

@@ -7,8 +7,8 @@ use Rattle.zarr_regions.specs.Cells.{WritesLines}
 use Rattle.zarr_regions.proofs.BandLemmas.{Front}
 use Rattle.zarr_regions.proofs.writing.write_lines.Given as goal
 
-abbrev pub invariant-loop-band : goal.invariant-loop-band
-invariant-loop-band g l = record {
+abbrev pub invariant-loop-bands : goal.invariant-loop-bands
+invariant-loop-bands g l = record {
   front :
       Front
       (λ (done : List (List ℕ)). WritesLines (layout_of_array l.initial.opened.array) (directory_of l.initial.opened.store) l.rows.form l.rows.size l.rows.width 0 l.column done
@@ -18,5 +18,5 @@ invariant-loop-band g l = record {
   directory : directory_of l.opened.store ≡ directory_of l.initial.opened.store;
 }
 
-abbrev pub decreases-loop-band : goal.decreases-loop-band
-decreases-loop-band g l = rows_left l.bands
+abbrev pub decreases-loop-bands : goal.decreases-loop-bands
+decreases-loop-bands g l = rows_left l.bands
