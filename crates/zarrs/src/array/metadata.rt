@@ -117,7 +117,10 @@ impl<TStorage: WritableStorageTraits> Array<TStorage> {
         ensures { PutsOrRefuses TStorage.state (IsPut put.key put.value) RefusesCall self.old
             self.new result }
     {
-        self.call_store(alloc, put).map_err(write_refusal)
+        match self.call_store(alloc, put) {
+            Ok(()) => Ok(()),
+            Err(error) => Err(write_refusal(error)),
+        }
     }
 
     /// Makes the writing call that puts the value at its key, or erases the key.

@@ -1,4 +1,5 @@
 use Rattle.std.proofs.Common.{◌≡◌, ◌∙◌, ap, subst, ℕ, List, Ok, inr, rules}
+use Rattle.std.proofs.lemmas.Result.{err_from_is_err_and}
 use Rattle.zarrs_options.specs.declared.versions.MetadataRetrieveVersion.{MetadataRetrieveVersion}
 use Rattle.zarrs_options.specs.Refusals.{create_refusal_of, RefusesCreation}
 use Rattle.zarrs_metadata.specs.Versions.{MetadataData}
@@ -63,4 +64,5 @@ returns-in_err-opened g c =
     let asked = subst (λ (p : List ℕ). NamesOneOf (IsMetadataKey c.in_ok-path.version p) e) path c.in_err-opened.ensures.named in
     let named = subst (λ (v : MetadataRetrieveVersion). NamesOneOf (IsMetadataKey v (path_of_array array)) e) version asked in
     let why : RefusesReopening state (metadata_options_of_array array) (path_of_array array) (metadata_of_array array) e (store_of_array state array) = inr (record { left = c.in_ok-storage.storage; stored = done; refused = by_version; named = named }) in
-    search (rules, why)
+    let p = err_from_is_err_and c.from_residual-in_err-opened.result c.from_residual-in_err-opened.ensures.1 in
+    rw (p.1, p.2) (record { metadata = λ m is again. tt; path = tt; layout = λ m is again. tt; stored = tt; options = tt; refused = why })

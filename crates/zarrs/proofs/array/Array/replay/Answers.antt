@@ -1,4 +1,5 @@
 use Rattle.std.proofs.Common.{List, ℕ, length, refl, ap, ◌∙◌, rules}
+use Rattle.std.proofs.lemmas.Result.{err_from_is_err_and}
 use Rattle.zarrs_metadata.specs.Versions.{metadata_view}
 use Rattle.zarrs_chunk_grid.specs.GridView.{array_extents_of}
 use Rattle.zarrs_engine.specs.Engine.{grid_of}
@@ -10,14 +11,22 @@ use Rattle.zarrs.proofs.array.Array.replay.Goals as goal
 pub returns-in_err-replies : goal.returns-in_err-replies
 returns-in_err-replies g c =
     let old = c.args.self.now in
-    let kept = record {
-      others = c.in_err-replies.ensures.others;
-      metadata = shape_kept (metadata_view old.metadata) old.engine c.replay.new.engine (parts_are old) (layout_same old.engine c.replay.new.engine c.in_err-replies.ensures.untouched);
-      codec_options = refl;
-      codec_specific_options = refl;
-      metadata_options = refl;
-    } in
-    search (rules, kept)
+    let made = c.in_err-replies.ensures in
+    let p = err_from_is_err_and c.from_residual.result c.from_residual.ensures.1 in
+    rw (p.1, p.2) (record {
+      run = tt;
+      untouched = search rules;
+      layout = made.layout;
+      kept = record {
+        others = made.others;
+        metadata = shape_kept (metadata_view old.metadata) old.engine c.replay.new.engine (parts_are old) (layout_same old.engine c.replay.new.engine made.untouched);
+        codec_options = refl;
+        codec_specific_options = refl;
+        metadata_options = refl;
+      };
+      reach = made.reach;
+      bytes = made.bytes;
+    })
 
 pub overwrite_shape-requires : goal.overwrite_shape-requires
 overwrite_shape-requires g c =
@@ -39,11 +48,18 @@ invariant_of-self-2 g c =
 
 pub returns : goal.returns
 returns g c =
-    let kept = record {
-      others = c.in_ok-replies.ensures.others;
-      metadata = c.overwrite_shape.ensures ∙ ap (λ (s : List ℕ). with_shape s (metadata_view c.args.self.now.metadata)) (c.array_shape.ensures.value ∙ ap array_extents_of c.chunk_grid.ensures);
-      codec_options = refl;
-      codec_specific_options = refl;
-      metadata_options = refl;
-    } in
-    search (rules, kept)
+    let made = c.in_ok-replies.ensures in
+    record {
+      run = made.run;
+      untouched = tt;
+      layout = made.layout;
+      kept = record {
+        others = made.others;
+        metadata = c.overwrite_shape.ensures ∙ ap (λ (s : List ℕ). with_shape s (metadata_view c.args.self.now.metadata)) (c.array_shape.ensures.value ∙ ap array_extents_of c.chunk_grid.ensures);
+        codec_options = refl;
+        codec_specific_options = refl;
+        metadata_options = refl;
+      };
+      reach = made.reach;
+      bytes = made.bytes;
+    }

@@ -1,4 +1,5 @@
-use Rattle.std.proofs.Common.{List, ℕ, length, refl, ap, ◌∙◌, rules}
+use Rattle.std.proofs.Common.{List, ℕ, length, refl, ap, ◌∙◌}
+use Rattle.std.proofs.lemmas.Result.{err_from_is_err_and}
 use Rattle.zarrs_metadata.specs.Versions.{metadata_view}
 use Rattle.zarrs_chunk_grid.specs.GridView.{array_extents_of}
 use Rattle.zarrs_engine.specs.Engine.{grid_of}
@@ -10,14 +11,24 @@ use Rattle.zarrs.proofs.array.Array.resize.Goals as goal
 pub returns-in_err-resize : goal.returns-in_err-resize
 returns-in_err-resize g c =
     let old = c.args.self.now in
-    let kept = record {
-      others = c.in_err-resize.ensures.others;
-      metadata = shape_kept (metadata_view old.metadata) old.engine c.resize.new.self (parts_are old) c.in_err-resize.ensures.layout_kept;
-      codec_options = refl;
-      codec_specific_options = refl;
-      metadata_options = refl;
-    } in
-    search (rules, kept)
+    let made = c.in_err-resize.ensures in
+    let p = err_from_is_err_and c.from_residual.result c.from_residual.ensures.1 in
+    rw (p.1, p.2) (record {
+      done = tt;
+      metadata = tt;
+      shape = tt;
+      refused = made.refused;
+      canonical = made.canonical;
+      layout = made.layout;
+      untouched = record { layout_kept = made.layout_kept; metadata = refl; codec_options = refl; codec_specific_options = refl; metadata_options = refl };
+      kept = record {
+        others = made.others;
+        metadata = shape_kept (metadata_view old.metadata) old.engine c.resize.new.self (parts_are old) made.layout_kept;
+        codec_options = refl;
+        codec_specific_options = refl;
+        metadata_options = refl;
+      };
+    })
 
 pub overwrite_shape-requires : goal.overwrite_shape-requires
 overwrite_shape-requires g c =
@@ -44,10 +55,10 @@ returns g c =
     record {
       done = c.in_ok-resize.ensures.done;
       metadata = metadata;
-      shape = search rules;
+      shape = c.in_ok-resize.ensures.shape;
       refused = tt;
       canonical = c.in_ok-resize.ensures.canonical;
-      layout = search rules;
+      layout = c.in_ok-resize.ensures.layout;
       untouched = tt;
       kept = record { others = c.in_ok-resize.ensures.others; metadata = shaped; codec_options = refl; codec_specific_options = refl; metadata_options = refl };
     }

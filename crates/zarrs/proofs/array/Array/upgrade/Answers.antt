@@ -4,6 +4,7 @@ use Rattle.zarrs_metadata_v3.specs.View.{document_view}
 use Rattle.zarrs_metadata_v2.specs.View.{document_v2_view}
 use Rattle.zarrs_metadata.specs.Versions.{metadata_view, v2}
 use Rattle.zarrs_engine_calls.specs.Refusals.{refusal_of_storage}
+use Rattle.zarrs_engine_layout.specs.Layouts.{layout_meaning}
 use Rattle.zarrs_creation.specs.Writing.{put_view}
 use Rattle.zarrs.specs.Arrays.{metadata_of_array, metadata_options_of_array, path_of_array, store_of_array}
 use Rattle.zarrs.proofs.Upgraded.{upgrade_done, upgrade_short, upgrade_refused, upgrade_converts}
@@ -28,8 +29,22 @@ returns-in_err-put_all g c =
     let new = store_of_array state c.put_all.new.self in
     let puts = map put_view c.in_ok-puts.puts.items in
     let why = upgrade_refused o path m d is puts (refusal_of_storage e) (store_of_array state old) new (c.in_ok-puts.ensures.upgrade d is) c.in_err-put_all.ensures.refused in
-    let named = c.in_err-put_all.ensures.named in
-    search (rules, why, named)
+    let left = c.in_err-put_all.ensures in
+    let p = err_from_is_err_and c.from_residual-in_err-put_all.result c.from_residual-in_err-put_all.ensures.1 in
+    rw (p.1, p.2) (record {
+      done = tt;
+      metadata = tt;
+      refused = why;
+      named = left.named;
+      untouched = left.kept;
+      kept = record {
+        layout_kept = left.kept.layout_kept;
+        layout = ap layout_meaning left.kept.layout_kept;
+        codec_options = left.kept.codec_options;
+        codec_specific_options = left.kept.codec_specific_options;
+        metadata_options = left.kept.metadata_options;
+      };
+    })
 
 pub returns : goal.returns
 returns g c =
