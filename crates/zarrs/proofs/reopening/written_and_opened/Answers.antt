@@ -1,4 +1,4 @@
-use Rattle.std.proofs.Common.{◌≡◌, ◌∙◌, ap, subst, ℕ, List, Ok, inr, rules}
+use Rattle.std.proofs.Common.{◌≡◌, ◌∙◌, ap, subst, ℕ, List, Ok, inl, inr, rules}
 use Rattle.std.proofs.lemmas.Result.{err_from_is_err_and}
 use Rattle.zarrs_options.specs.declared.versions.MetadataRetrieveVersion.{MetadataRetrieveVersion}
 use Rattle.zarrs_options.specs.Refusals.{create_refusal_of, RefusesCreation}
@@ -66,3 +66,13 @@ returns-in_err-opened g c =
     let why : RefusesReopening state (metadata_options_of_array array) (path_of_array array) (metadata_of_array array) e (store_of_array state array) = inr (record { left = c.in_ok-storage.storage; stored = done; refused = by_version; named = named }) in
     let p = err_from_is_err_and c.from_residual-in_err-opened.result c.from_residual-in_err-opened.ensures.1 in
     rw (p.1, p.2) (record { metadata = λ m is again. tt; path = tt; layout = λ m is again. tt; stored = tt; options = tt; refused = why })
+
+pub returns-in_err-path : goal.returns-in_err-path
+returns-in_err-path g c =
+    let p = err_from_is_err_and c.from_residual.result c.from_residual.ensures.1 in
+    rw (p.1, p.2) (record { metadata = λ m is again. tt; path = tt; layout = λ m is again. tt; stored = tt; options = tt; refused = inl (inl c.in_err-path.ensures.refused) })
+
+pub returns-in_err-storage : goal.returns-in_err-storage
+returns-in_err-storage g c =
+    let p = err_from_is_err_and c.from_residual-in_err-storage.result c.from_residual-in_err-storage.ensures.1 in
+    rw (p.1, p.2) (record { metadata = λ m is again. tt; path = tt; layout = λ m is again. tt; stored = tt; options = tt; refused = inl c.in_err-storage.ensures.refused })
