@@ -67,15 +67,6 @@ is_some (c ∷ codecs) some = refl
 
 -- ---- whole chunks
 
-pub whole_read : (may_read : ℕ → Bool) (window : Window) (source : List ℕ) (k : Kind) (s : List ℕ) (part : Box) → IsWindow window source
-    → MayRead may_read window (all_places k s part (window_bytes window source)) → MayReadPlaces may_read window.offset window.len
-whole_read may_read window source k s part inside may place from below =
-    let x = place - window.offset in
-    let b = window_bytes window source in
-    let len : length b ≡ window.len = length-take-le window.len _ (omega (arith, length-drop window.offset source)) in
-    let at : place ≡ window.offset + x = omega arith in
-    ap may_read at ∙ may x (lt-ltb x (length b) (omega arith))
-
 -- cells that a usize does not count, or fill, are too large
 pub cells_large : (leaves_out : Bool) (k : Kind) (f : Cell) (s : List ℕ) → 2 ^ 64 ≤ position_count s * cell_size k → is_too_large leaves_out k f s ≡ true
 cells_large leaves_out k f s large =

@@ -1,48 +1,37 @@
 -- Reads of parts of shards into targets, one subchunk after another.
 use Rattle.std.proofs.Common.{◌≡◌, ℕ, zero, suc, ◌+◌, ◌-◌, ◌^◌, ◌<◌, ◌≤◌, max, min, map, Bool, true, false, ◌&&◌, ◌||◌, List, [], ◌∷◌, ◌++◌, length, take, slice_get, Option, None, Some, inl, inr, refl, sym, ap, ◌∙◌, subst, arith}
-use Rattle.std.specs.Prelude.{IfSome, option_map, slice_index, slice_index_or, nat_eq}
+use Rattle.std.specs.Prelude.{slice_index, slice_index_or, nat_eq}
 use Rattle.std.specs.Cmp.Lexicographic.{pointwise, same_text}
 use Rattle.std.proofs.lemmas.Bool.{and_from, cases_Bool, eq-eqb, false≢true}
-use Rattle.std.proofs.lemmas.List.{get_or-map, take_more, take_all}
+use Rattle.std.proofs.lemmas.List.{take_more, take_all}
 use Rattle.std.proofs.lemmas.Option.{slice_get_within, get_or_from_slice_get}
 use Rattle.zarrs_data_type.specs.ArrayData.{ArrayData}
 use Rattle.zarrs_data_type.specs.Cells.{cell_at}
-use Rattle.zarrs_codec_shard.specs.ShardIndex.{range_part}
 use Rattle.zarrs_codec_shard.specs.Sharded.{SubchunkMeaning, sharded_decoded}
 use Rattle.zarrs_codec_shard.specs.Shards.{shard_parts}
-use Rattle.zarrs_codec_shard.specs.declared.shard_index.SubchunkRange.{SubchunkRange}
 use Rattle.zarrs_codec_shard.specs.Subchunks.{corner, is_cut_by, quotients, remainders, subchunk_box, subchunk_count}
 use Rattle.zarrs_codec_shard.proofs.Cuts.{position_divided}
 use Rattle.zarrs_codec_shard.proofs.SubchunkBoxes.{only_own, place_in_chunk}
-use Rattle.zarrs_codec_leaf.specs.Sources.{IsWindow, MayRead, window_bytes}
-use Rattle.zarrs_codec_leaf.specs.declared.source.Window.{Window}
 use Rattle.zarrs_subset.specs.Boxes.{InShape, offset_by, offset_from, place, position_count}
 use Rattle.zarrs_subset.specs.Regions.{Box, Holds, IsLong, LiesInShape, box_at_origin, box_from, cell_in, in_box, overlap_of, place_in, positions, seen_from}
 use Rattle.zarrs_subset.proofs.Bytes.{holds_along}
-use Rattle.zarrs_subset.proofs.Kernel.{place_below}
-use Rattle.zarrs_subset.proofs.Overlaps.{AllSome, in_box-empty, length-overlap_extents, length-zip_with}
-use Rattle.zarrs_subset.proofs.Parts.{overlap_extents-at, zip_with-at}
 use Rattle.zarrs_data_type.specs.Targets.{KeepsOutside}
 use Rattle.zarrs_data_type.specs.Cell.{Cell, is_value}
 use Rattle.zarrs_data_type.specs.Kind.{Kind, fixed_size}
 use Rattle.zarrs_subset.specs.Regions.{LiesInBox}
 use Rattle.zarrs_subset.proofs.Inside.{holds_inside}
 use Rattle.zarrs_codec_chain.specs.Parts.{DecodesPartAt, place_at}
-use Rattle.zarrs_codec_chain.specs.Places.{shard_places}
-use Rattle.zarrs_codec_chain.specs.ShardParts.{DecodesAs, IsCellOf, IsShard, MeetsPart, RefusesStep, is_among}
-use Rattle.zarrs_codec_chain.specs.declared.shard.ShardIndex.{ShardIndex}
-use Rattle.zarrs_codec_chain.specs.declared.error.PartError.{PartError}
+use Rattle.zarrs_codec_chain.specs.ShardParts.{DecodesAs, IsCellOf, MeetsPart, is_among}
 use Rattle.zarrs_codec_chain.proofs.MovedBoxes.{moved_box, moved_holds, moved_in, moved_same, moved_to}
 use Rattle.zarrs_codec_chain.proofs.PartBoxes.{part_fits, within_shape}
 use Rattle.zarrs_codec_chain.proofs.Stays.{cell_stays}
-use Rattle.zarrs_codec_chain.proofs.ReadSteps.{IsFound, IsMet, window_of}
 use Rattle.zarrs_codec_chain.proofs.SubchunkPieces.{subset_is}
-use Rattle.zarrs_codec_chain.proofs.SubchunkSteps.{cell_of_whole, holds_seen, inner_refused, met_among, own_holds, own_place, seen_again}
+use Rattle.zarrs_codec_chain.proofs.SubchunkSteps.{cell_of_whole, holds_seen, met_among, own_holds, own_place, seen_again}
 use Rattle.zarrs_codec_array.specs.declared.array.ArrayToArrayCodec.{ArrayToArrayCodec}
 use Rattle.zarrs_codec_chain.specs.Chain.{ChainMeaning}
 use Rattle.zarrs_codec.specs.ChainLaws.{same_cells}
 use Rattle.zarrs_codec.specs.Chains.{behind, no_codec}
-use Rattle.zarrs_codec.specs.ShardPartsInto.{DecodesPieceAt, HasAllPartsAt, HasSubchunksAt, IsPartValue, ReadsSubchunkAt, RefusesPiece, range_window}
+use Rattle.zarrs_codec.specs.ShardPartsInto.{DecodesPieceAt, HasAllPartsAt, HasSubchunksAt, IsPartValue, ReadsSubchunkAt}
 
 -- ---- index lists
 
@@ -60,30 +49,9 @@ among_more (d ∷ done) i q none other =
     neither true b is = absurd (false≢true (sym is))
     neither false b is = (refl, is)
 
--- ---- positions of a part that no subchunk with these indices has
-
-module _ (s sub : List ℕ) (part : Box) (i : List ℕ) (cut : is_cut_by s sub ≡ true) (long : IsLong part) (lies : LiesInShape part s) where
+module _ (s sub : List ℕ) (part : Box) (cut : is_cut_by s sub ≡ true) (long : IsLong part) (lies : LiesInShape part s) where
   in_shape : (p : List ℕ) → Holds part p → InShape s p
   in_shape p holds = within_shape part.start part.shape s p (part_fits part s long lies) holds
-
-  -- indices that no subchunk has
-  pub none_unfound : (grid : List ℕ) → grid ≡ quotients s sub → (InShape grid i → 2 ^ 64 ≤ place grid i) → subchunk_count s sub < 2 ^ 64
-      → (p : List ℕ) → Holds part p → quotients p sub ≡ i → ⊥
-  none_unfound grid same past few p holds is =
-      let inside = subst (InShape (quotients s sub)) is (position_divided s sub p cut (in_shape p holds)).in_grid in
-      let below = place_below (quotients s sub) i inside in
-      let large = past (subst (λ g. InShape g i) (sym same) inside) in
-      omega (arith, ap (λ g. place g i) same)
-
-  -- a subchunk that the part does not meet
-  pub none_empty : (n : ℕ) (shared : Box) (j : ℕ) → InShape (quotients s sub) i → place (quotients s sub) i ≡ n → IsLong shared → j < length shared.shape → slice_index shared.shape j ≡ 0
-      → ((p : List ℕ) → in_box shared p ≡ (in_box part p && in_box (subchunk_box s sub n) p))
-      → (p : List ℕ) → Holds part p → quotients p sub ≡ i → ⊥
-  none_empty n shared j inside at_n shared_long lt none_is common p holds is =
-      let own = own_holds s sub i p cut (in_shape p holds) is in
-      let there = subst (λ b. in_box b p ≡ true) (sym (subset_is s sub part i n cut long lies inside at_n)) own in
-      let both = common p ∙ and_from (in_box part p) (in_box (subchunk_box s sub n) p) holds there in
-      false≢true (sym (in_box-empty shared.start shared.shape p j shared_long lt none_is) ∙ both)
 
 -- ---- one more subchunk
 
@@ -128,11 +96,11 @@ module _ (k : Kind) (decoded : List ℕ → Option (List Cell)) (fill : Cell) (s
     there p holds is =
         common p
         ∙ and_from (in_box part p) (in_box (subchunk_box s sub n) p) holds
-        (subst (λ b. in_box b p ≡ true) (sym box_is) (own_holds s sub i p cut (in_shape s sub part i cut long lies p holds) is))
+        (subst (λ b. in_box b p ≡ true) (sym box_is) (own_holds s sub i p cut (in_shape s sub part cut long lies p holds) is))
 
     not_there : (p : List ℕ) → Holds part p → (quotients p sub ≡ i → ⊥) → in_box shared p ≡ false
     not_there p holds other = elim (cases_Bool (in_box (subchunk_box s sub n) p)) [
-      | inl is ↦ absurd (other (only_own s sub i p cut in_grid (in_shape s sub part i cut long lies p holds) (subst (λ b. in_box b p ≡ true) box_is is)))
+      | inl is ↦ absurd (other (only_own s sub i p cut in_grid (in_shape s sub part cut long lies p holds) (subst (λ b. in_box b p ≡ true) box_is is)))
       | inr is ↦ common p ∙ ap (λ b. in_box part p && b) is ∙ and_false (in_box part p)
     ]
       where
@@ -151,7 +119,7 @@ module _ (k : Kind) (decoded : List ℕ → Option (List Cell)) (fill : Cell) (s
         let long_p : length p ≡ length shared.start = (holds_along shared p shared_long here).same_length in
         let q = offset_from (corner sub i) p in
         let seen = holds_seen shared (corner sub i) p shared_long corner_len above here in
-        let d = position_divided s sub p cut (in_shape s sub part i cut long lies p holds) in
+        let d = position_divided s sub p cut (in_shape s sub part cut long lies p holds) in
         let at : place_at box (moved_box own part shared) (seen_from shared (corner sub i)) q ≡ place_at box own part p =
         ap (λ x. place_in box (offset_by (moved_box own part shared).start x)) (seen_again shared.start (corner sub i) p corner_len long_p above)
         ∙ ap (place_in box) (moved_same own part shared own_long long shared_long same_shape shared_lies p here) in
@@ -160,7 +128,7 @@ module _ (k : Kind) (decoded : List ℕ → Option (List Cell)) (fill : Cell) (s
           ap (is_value k) (sym cell_is) ∙ got.value,
           λ cs decodes.
               ap Some (sym cell_is) ∙ got.same cs decodes
-              ∙ ap (λ x. cell_in (box_at_origin sub) cs x) (own_place s sub i p cut (in_shape s sub part i cut long lies p holds) is)
+              ∙ ap (λ x. cell_in (box_at_origin sub) cs x) (own_place s sub i p cut (in_shape s sub part cut long lies p holds) is)
               ∙ ap (slice_get cs) (place_in_chunk sub (remainders p sub) d.in_part),
         )
 
@@ -218,66 +186,9 @@ module _ (k : Kind) (decoded : List ℕ → Option (List Cell)) (fill : Cell) (s
             cell_of_whole k decoded fill s sub m at_start encoded parts decodes_as parts_are whole is p inside cut counted (Some (cell held p)) v.same ∙ ap (slice_get whole) (sym (place_in_chunk s p inside));
       }
 
--- ---- what a part and a subchunk share
-
-within_both : (a x b y f e : ℕ) → f ≡ max a b → e ≡ min (a + x) (b + y) - max a b → 0 < e → f + e ≤ a + x
-within_both a x b y f e first extent some = omega arith
-
-not_zero : (e : ℕ) → (e ≡ 0 → ⊥) → 0 < e
-not_zero zero never = absurd (never refl)
-not_zero (suc e) never = omega arith
-
-pub overlap_lies : (a b : Box) → IsLong a → IsLong b → length a.start ≡ length b.start → AllSome (overlap_of a b).shape → LiesInBox (overlap_of a b) a
-overlap_lies a b long b_long same full =
-    let shared = overlap_of a b in
-    let start_len : length shared.start ≡ length a.start = length-zip_with (λ x y. max x y) a.start b.start same in
-    let shape_len : length shared.shape ≡ length a.start = length-overlap_extents a.start a.shape b.start b.shape long b_long same in
-    record {
-      same_length = start_len;
-      starts = λ k lt. omega (arith, zip_with-at (λ x y. max x y) a.start b.start k lt (omega (arith, same)));
-      ends = λ k lt.
-          within_both (slice_index a.start k) (slice_index a.shape k) (slice_index b.start k) (slice_index b.shape k) (slice_index shared.start k) (slice_index shared.shape k)
-          (zip_with-at (λ x y. max x y) a.start b.start k lt (omega (arith, same))) (overlap_extents-at a.start a.shape b.start b.shape k long b_long same lt)
-          (not_zero (slice_index shared.shape k) (full k (omega (arith, shape_len))));
-    }
-
--- ---- the window of a subchunk, if it is present
-
-pub record IsPieceWindow (may_read : ℕ → Bool) (source : List ℕ) (parts : List (Option (List ℕ))) (n : ℕ) (own : Option Window) : Type 0 where
-  pub inside : IfSome own (λ w. IsWindow w source)
-  pub bytes_are : slice_index_or parts n None ≡ option_map (λ w. window_bytes w source) own
-  pub allowed : (places : List ℕ → ℕ → Bool) → ((b : List ℕ) (place : ℕ) → places b place ≡ true → place < length b) → IfSome own (λ w. MayRead may_read w (places (window_bytes w source)))
-
-pub piece_window : (may_read : ℕ → Bool) (window : Window) (source : List ℕ) (index : ShardIndex) (at_start : Bool) (k : Kind) (s sub i : List ℕ) (part : Box) (n : ℕ) (range : Option SubchunkRange) (subset shared : Box)
-    → IsShard index at_start s sub (window_bytes window source) → IsFound s sub i n index → IsMet s sub i part n subset shared → IsWindow window source → length source < 2 ^ 64
-    → slice_index_or index.ranges.items n None ≡ range → MayRead may_read window (shard_places at_start sub k s part (window_bytes window source))
-    → IsPieceWindow may_read source (map (range_part (window_bytes window source)) index.ranges.items) n (option_map (range_window window) range)
-piece_window may_read window source index at_start k s sub i part n None subset shared shard here there inside small is may =
-    let lt : n < length index.ranges.items = omega (arith, here.below, here.counted) in
-    record {
-      inside = tt;
-      bytes_are = get_or-map (range_part (window_bytes window source)) index.ranges.items n None None lt ∙ ap (range_part (window_bytes window source)) is;
-      allowed = λ places short. tt;
-    }
-piece_window may_read window source index at_start k s sub i part n (Some range) subset shared shard here there inside small is may =
-    let own = range_window window range in
-    let at = window_of may_read window own source index at_start k s sub i part n range subset shared shard here there inside small is refl refl may in
-    record {
-      inside = at.inside;
-      bytes_are = at.bytes_are;
-      allowed = λ places short. at.allowed (places (window_bytes own source)) (short (window_bytes own source));
-    }
-
 -- ---- behind no codec
 
 pub alone_at : (codecs : List ArrayToArrayCodec) (m : ChainMeaning) (k : Kind) (f : Cell) (s : List ℕ) (part : Box) (b : List ℕ) (box own : Box) (held : ArrayData) → no_codec codecs ≡ true
     → DecodesPartAt k s part (m.decoded k f s b) box own held → DecodesPartAt k s part ((behind codecs m).decoded k f s b) box own held
 alone_at [] m k f s part b box own held alone h = subst (λ o. DecodesPartAt k s part o box own held) (sym (same_cells m k f s (Some b))) h
 alone_at (c ∷ codecs) m k f s part b box own held alone h = absurd (false≢true alone)
-
--- ---- refusals
-
-pub piece_refused : (decoded : List ℕ → Option (List Cell)) (TooLarge : ℕ → List ℕ → Type 0) (Large : List ℕ → Type 0) (parts : List (Option (List ℕ))) (n : ℕ) (o : Option (List ℕ)) (refuses : Bool) (e : PartError)
-    → n < length parts → slice_index_or parts n None ≡ o → ((b : List ℕ) → Large b → TooLarge n b) → RefusesPiece decoded Large o refuses e → RefusesStep decoded TooLarge parts refuses e
-piece_refused decoded TooLarge Large parts n None refuses e lt is large why = subst (RefusesStep decoded TooLarge parts refuses) (sym why) tt
-piece_refused decoded TooLarge Large parts n (Some encoded) refuses e lt is large why = inner_refused decoded TooLarge (Large encoded) parts n encoded refuses e lt is (large encoded) why

@@ -1,8 +1,7 @@
 -- Shards that are read whole into targets.
 use Rattle.std.proofs.Common.{◌≡◌, ℕ, ◌-◌, ◌<◌, Bool, true, List, [], ◌∷◌, length, map, replicate, get_or, slice_get, Option, None, Some, refl, sym, ap, ◌∙◌, subst, arith}
 use Rattle.std.specs.Prelude.{IfSome, IsSome, option_map, slice_index}
-use Rattle.std.proofs.lemmas.Bool.{false≢true}
-use Rattle.std.proofs.lemmas.List.{get_or-replicate, length-map, length-replicate}
+use Rattle.std.proofs.lemmas.List.{get_or-replicate, length-replicate}
 use Rattle.std.proofs.lemmas.List.Sums.{AllPass-from_list_all}
 use Rattle.std.proofs.lemmas.Option.{slice_get-get_or, slice_get_within}
 use Rattle.zarrs_data_type.specs.ArrayData.{ArrayData}
@@ -11,26 +10,25 @@ use Rattle.zarrs_data_type.specs.Cells.{cell_at}
 use Rattle.zarrs_data_type.specs.Kind.{Kind}
 use Rattle.zarrs_data_type_bytes.proofs.FixedSizes.{some_is}
 use Rattle.zarrs_data_type_region.proofs.TargetBoxes.{origin_long}
-use Rattle.zarrs_subset.specs.Boxes.{unravel, zip_with}
+use Rattle.zarrs_subset.specs.Boxes.{InShape, unravel, zip_with}
 use Rattle.zarrs_subset.specs.Regions.{Box, IsLong, LiesInShape, box_at_origin, overlap_of, place_in, seen_from}
 use Rattle.zarrs_subset.proofs.Overlaps.{AllSome}
 use Rattle.zarrs_subset.proofs.Positions.{place-unravel, unravel_in}
 use Rattle.zarrs_codec_array.specs.declared.array.ArrayToArrayCodec.{ArrayToArrayCodec}
-use Rattle.zarrs_codec_leaf.specs.Sources.{window_bytes}
-use Rattle.zarrs_codec_leaf.specs.declared.source.Window.{Window}
-use Rattle.zarrs_codec_shard.specs.ShardIndex.{range_part}
-use Rattle.zarrs_codec_shard.specs.Subchunks.{quotients, subchunk_box, subchunk_count}
+use Rattle.zarrs_codec_shard.specs.Subchunks.{quotients}
 use Rattle.zarrs_codec_shard.proofs.Grids.{cut_at, cut_len}
-use Rattle.zarrs_codec_shard.proofs.ShardLaws.{length-shard_parts}
 use Rattle.zarrs_codec_shard.proofs.SubchunkBoxes.{lies_in_chunk, long_corner}
 use Rattle.zarrs_codec_chain.specs.Chain.{ChainMeaning}
 use Rattle.zarrs_codec_chain.specs.Parts.{DecodesInto, DecodesPartAt}
 use Rattle.zarrs_codec_chain.specs.ShardInto.{DecodesPartInto}
-use Rattle.zarrs_codec_chain.specs.ShardParts.{IsShard}
-use Rattle.zarrs_codec_chain.specs.declared.shard.ShardIndex.{ShardIndex}
+use Rattle.zarrs_codec_leaf.specs.declared.source.ByteSource.{Ghosts as SourceMeaning}
+use Rattle.zarrs_codec_chain.specs.Places.{boxes_meet}
+use Rattle.zarrs_codec_chain.specs.ShardReads.{IsOpen, ShardRead, box_at, count_of}
+use Rattle.zarrs_codec_chain.specs.Stored.{bytes_of}
+use Rattle.zarrs_codec_chain.specs.declared.stored.Stored.{Stored}
+use Rattle.zarrs_codec_chain.proofs.SubchunkPieces.{meets, subset_is}
 use Rattle.zarrs_codec_chain.proofs.AllOfIt.{whole_part}
 use Rattle.zarrs_codec_chain.proofs.MovedBoxes.{moved_holds, moved_place, moved_to, overlap_inside}
-use Rattle.zarrs_codec_chain.proofs.ReadSteps.{IsFound, IsMet, box_is, met}
 use Rattle.zarrs_codec.specs.ChainLaws.{same_cells}
 use Rattle.zarrs_codec.specs.Chains.{behind, no_codec}
 use Rattle.zarrs_codec.specs.ShardPartsInto.{DecodesPieceAt}
@@ -85,10 +83,10 @@ alone_some (c ∷ codecs) m k f s b alone some = absurd (false≢true alone)
 
 -- ---- subchunks
 
-pub some_bytes : (decoded : List ℕ → Option (List Cell)) (source : List ℕ) (window : Option Window) → IfSome window (λ w. IsSome (decoded (window_bytes w source)))
-    → IfSome (option_map (λ w. window_bytes w source) window) (λ b. IsSome (decoded b))
-some_bytes decoded source None some = some
-some_bytes decoded source (Some w) some = some
+pub some_bytes : {B : Type 0} {b : SourceMeaning B} (decoded : List ℕ → Option (List Cell)) (stored : Option (Stored B b)) → IfSome stored (λ own. IsSome (decoded (bytes_of own)))
+    → IfSome (option_map bytes_of stored) (λ x. IsSome (decoded x))
+some_bytes decoded None some = some
+some_bytes decoded (Some own) some = some
 
 -- a subchunk that was read whole
 pub piece_whole : (k : Kind) (decoded : List ℕ → Option (List Cell)) (fill : Cell) (parent sub : List ℕ) (piece own : Box) (o : Option (List ℕ)) (held : ArrayData)
@@ -97,34 +95,24 @@ pub piece_whole : (k : Kind) (decoded : List ℕ → Option (List Cell)) (fill :
 piece_whole k decoded fill parent sub piece own None held long same piece_is some d = d
 piece_whole k decoded fill parent sub piece own (Some b) held long same piece_is some d = whole_part k parent sub piece own (decoded b) held long same piece_is some d
 
-module _ (index : ShardIndex) (at_start : Bool) (s sub encoded : List ℕ) (part : Box) (n : ℕ) (shard : IsShard index at_start s sub encoded) (lt : n < subchunk_count s sub) where
-  abbrev at_index : List ℕ
-  at_index = unravel (quotients s sub) n
+module _ (r : ShardRead) (is : IsOpen r) (n : ℕ) (part_is : r.part ≡ box_at_origin r.shape) (lt : n < count_of r) where
+  own_grid : InShape (quotients r.shape r.sub) (unravel (quotients r.shape r.sub) n)
+  own_grid = unravel_in (quotients r.shape r.sub) n lt
 
-  pub found_at : IsFound s sub at_index n index
-  found_at = record {
-    in_grid = unravel_in (quotients s sub) n lt;
-    at_n = place-unravel (quotients s sub) n lt;
-    below = lt;
-    counted =
-        sym (length-map index.ranges.items (range_part encoded))
-        ∙ length-shard_parts at_start (subchunk_count s sub) encoded (map (range_part encoded) index.ranges.items) shard.parts;
-  }
-
-  pub own_long : IsLong (subchunk_box s sub n)
-  own_long = long_corner s sub at_index shard.cut (unravel_in (quotients s sub) n lt)
+  pub own_long : IsLong (box_at r n)
+  own_long = long_corner r.shape r.sub (unravel (quotients r.shape r.sub) n) is.cut own_grid
 
   -- the whole chunk has all of the subchunk
-  pub shared_is : part ≡ box_at_origin s → overlap_of part (subchunk_box s sub n) ≡ subchunk_box s sub n
-  shared_is part_is =
-      ap (λ (b : Box). overlap_of b (subchunk_box s sub n)) part_is
-      ∙ overlap_inside (box_at_origin s) (subchunk_box s sub n) (origin_long s) own_long (lies_in_chunk s sub at_index shard.cut (unravel_in (quotients s sub) n lt))
+  pub shared_is : overlap_of r.part (box_at r n) ≡ box_at r n
+  shared_is =
+      ap (λ (b : Box). overlap_of b (box_at r n)) part_is
+      ∙ overlap_inside (box_at_origin r.shape) (box_at r n) (origin_long r.shape) own_long (lies_in_chunk r.shape r.sub (unravel (quotients r.shape r.sub) n) is.cut own_grid)
 
-  pub met_at : IsLong part → LiesInShape part s → part ≡ box_at_origin s → IsMet s sub at_index part n (subchunk_box s sub n) (overlap_of part (subchunk_box s sub n))
-  met_at long lies part_is =
-      let own = subchunk_box s sub n in
-      let all : AllSome own.shape = λ j below nothing.
-      let some : 0 < slice_index sub j = (cut_at s sub j shard.cut (omega (arith, (cut_len s sub shard.cut).0))).1 in
+  pub all_met : boxes_meet r.part (box_at r n) ≡ true
+  all_met =
+      let all : AllSome (box_at r n).shape = λ j below nothing.
+      let some : 0 < slice_index r.sub j = (cut_at r.shape r.sub j is.cut (omega (arith, (cut_len r.shape r.sub is.cut).0))).1 in
       omega arith in
-      met index at_start s sub encoded at_index part n own (overlap_of part own) shard found_at long lies (sym (box_is index at_start s sub encoded n _ shard refl)) refl
-      (subst (λ (b : Box). AllSome b.shape) (sym (shared_is part_is)) all)
+      meets r.shape r.sub r.part (unravel (quotients r.shape r.sub) n) n is.cut is.long is.lies own_grid (place-unravel (quotients r.shape r.sub) n lt)
+      (subst (λ (b : Box). AllSome (overlap_of r.part b).shape) (ap (λ (b : Box). b) (subset_is r.shape r.sub r.part (unravel (quotients r.shape r.sub) n) n is.cut is.long is.lies own_grid (place-unravel (quotients r.shape r.sub) n lt)))
+      (subst (λ (b : Box). AllSome b.shape) (sym shared_is) all))

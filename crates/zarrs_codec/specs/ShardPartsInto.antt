@@ -1,23 +1,20 @@
 -- What a read of a part of a shard into a target has there after some of its subchunks.
-use Rattle.std.specs.Prelude.{◌≡◌, ◌+◌, ◌-◌, ℕ, Bool, true, Option, None, Some, List, ◌∷◌, [], ◌++◌}
+use Rattle.std.specs.Prelude.{◌≡◌, ℕ, Bool, true, Option, None, Some, List, ◌∷◌, [], ◌++◌}
 use Rattle.zarrs_data_type.specs.ArrayData.{ArrayData}
 use Rattle.zarrs_data_type.specs.Cells.{cell_at}
 use Rattle.zarrs_codec_leaf.specs.declared.error.CodecError.TheVariants as codec
-use Rattle.zarrs_codec_shard.specs.declared.shard_index.SubchunkRange.{SubchunkRange}
 use Rattle.zarrs_codec_shard.specs.Subchunks.{quotients}
-use Rattle.zarrs_codec_leaf.specs.declared.source.Window.{Window}
+use Rattle.zarrs_codec_leaf.specs.declared.source.ByteSource.{Ghosts as SourceMeaning}
 use Rattle.zarrs_subset.specs.Regions.{Box, Holds, place_in}
 use Rattle.zarrs_data_type.specs.Cell.{Cell, is_value}
 use Rattle.zarrs_data_type.specs.Kind.{Kind}
 use Rattle.zarrs_codec_chain.specs.declared.error.PartError.{PartError}
 use Rattle.zarrs_codec_chain.specs.declared.error.PartError.TheVariants.{Codec}
+use Rattle.zarrs_codec_chain.specs.Stored.{bytes_of, refuses_of}
+use Rattle.zarrs_codec_chain.specs.declared.stored.Stored.{Stored}
 use Rattle.zarrs_codec_chain.specs.Parts.{DecodesPartAt, place_at}
 use Rattle.zarrs_codec_chain.specs.PartRefusals.{RefusesPartDecoding}
 use Rattle.zarrs_codec_chain.specs.ShardParts.{IsPartCell, is_among}
-
--- the window of a range of a window
-abbrev pub range_window : Window → SubchunkRange → Window
-range_window window range = record { offset = window.offset + range.start; len = range.end - range.start }
 
 -- the cell is a value of the type, and the one that the parts of a shard have at a position
 pub record IsPartValue (k : Kind) (decoded : List ℕ → Option (List Cell)) (fill : Cell) (shape sub : List ℕ)
@@ -54,7 +51,7 @@ DecodesPieceAt k decoded fill sub piece None box own held = (position : List ℕ
 DecodesPieceAt k decoded fill sub piece (Some encoded) box own held = DecodesPartAt k sub piece (decoded encoded) box own held
 
 -- why a piece of a subchunk is not read
-abbrev pub RefusesPiece : (List ℕ → Option (List Cell)) → (TooLarge : List ℕ → Type 0)
-    → Option (List ℕ) → (refuses : Bool) → PartError → Type 0
-RefusesPiece decoded TooLarge None refuses e = e ≡ Codec codec.OutOfMemory
-RefusesPiece decoded TooLarge (Some encoded) refuses e = RefusesPartDecoding (decoded encoded) (TooLarge encoded) refuses e
+module _ {B : Type 0} {b : SourceMeaning B} where
+  abbrev pub RefusesPiece : (List ℕ → Option (List Cell)) → (TooLarge : List ℕ → Type 0) → Option (Stored B b) → PartError → Type 0
+  RefusesPiece decoded TooLarge None e = e ≡ Codec codec.OutOfMemory
+  RefusesPiece decoded TooLarge (Some own) e = RefusesPartDecoding (decoded (bytes_of own)) (TooLarge (bytes_of own)) (refuses_of own) e

@@ -15,7 +15,7 @@ ghost use Rattle.zarrs_codec_chain.specs.Options.{stores_empty_chunks};
 use crate::codec::ArrayToBytesCodec;
 use std::alloc::{AllocError, Global};
 use zarrs_codec_array::{ArrayToArrayCodec, decode_array, encode_array, encoded_shape};
-use zarrs_codec_chain::{ChainTraits, CodecOptions, PartError};
+use zarrs_codec_chain::{ChainTraits, CodecOptions, PartError, Stored};
 use zarrs_codec_leaf::{ByteSource, CodecError, Misfit, Window};
 use zarrs_codec_shard::PartialWrite;
 use zarrs_data_type::{ArrayBytes, ArrayBytesDecodeIntoTarget, ChunkType, DataType};
@@ -208,7 +208,7 @@ impl ChainTraits for CodecChain {
         part: &ArraySubset,
         chunk: &ChunkType<'_>,
     ) -> Result<ArrayBytes<'static>, PartError> {
-        self.partial_decode_chunk(alloc, source, window, part, chunk)
+        self.partial_decode_chunk(alloc, &Stored::new(source, window), part, chunk)
     }
 
     fn partial_decode_into<B: ByteSource>(
@@ -220,7 +220,8 @@ impl ChainTraits for CodecChain {
         chunk: &ChunkType<'_>,
         target: &mut ArrayBytesDecodeIntoTarget<'_, '_, '_>,
     ) -> Result<(), PartError> {
-        self.partial_decode_chunk_into(alloc, source, window, part, chunk, target)
+        let stored = Stored::new(source, window);
+        self.partial_decode_chunk_into(alloc, &stored, part, chunk, target)
     }
 
     fn compact(

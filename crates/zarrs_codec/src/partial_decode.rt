@@ -2,67 +2,62 @@
 ghost use Rattle.std.specs.Prelude.{◌*◌, ◌<◌, ◌^◌, IfOk, IfErr, IfNone, IfSome, IsSome};
 ghost use Rattle.zarrs_subset.specs.Boxes.{position_count};
 ghost use Rattle.zarrs_subset.specs.Regions.{LiesInShape, box_of};
-ghost use Rattle.zarrs_data_type.specs.CellTypes.{chunk_kind, chunk_fill, shape_of};
+ghost use Rattle.zarrs_data_type.specs.CellTypes.{chunk_kind, kind_of, shape_of};
 ghost use Rattle.zarrs_data_type.specs.Kind.{cell_size};
 ghost use Rattle.zarrs_data_type.specs.ArrayData.{data_of};
 ghost use Rattle.zarrs_data_type.specs.Cells.{HasCells};
 ghost use Rattle.zarrs_data_type.specs.RegionData.{region_data};
-ghost use Rattle.zarrs_codec_leaf.specs.Sources.{IsWindow, MayRead, window_bytes};
 ghost use Rattle.zarrs_codec_chain.specs.Chunks.{HoldsPart, RefusesToDecodePart, decoded_of};
-ghost use Rattle.zarrs_codec_chain.specs.Places.{all_places, shard_places};
-ghost use Rattle.zarrs_codec_chain.specs.ShardParts.{HasAllParts, IsShard, MeetsPart, ReadsSubchunk};
+ghost use Rattle.zarrs_codec_chain.specs.OpenShards.{read_of};
+ghost use Rattle.zarrs_codec_chain.specs.Places.{all_places};
+ghost use Rattle.zarrs_codec_chain.specs.ShardParts.{MeetsPart};
+ghost use Rattle.zarrs_codec_chain.specs.Stored.{MayReadAll, MayReadOf, bytes_of, refuses_of};
 ghost use Rattle.zarrs_codec.specs.Chains.{chain_meaning, inner_chain_of, sharding_meaning};
-ghost use Rattle.zarrs_codec.specs.ShardChunks.{DecodesWhole, RefusesSubchunks, inner_decoded, parts_of, shard_as};
-ghost use Rattle.zarrs_codec.specs.ShardPieces.{HasNoPiece, HasPiece};
+ghost use Rattle.zarrs_codec.specs.ShardChunks.{DecodesWhole, HasNoPieceOf, HasParts, HasPieceOf};
+ghost use Rattle.zarrs_codec.specs.ShardChunks.{ReadsOne, RefusesSubchunks};
 
 use crate::chain::CodecChain;
 use crate::codec::ArrayToBytesCodec;
 use crate::sharding::ShardingCodec;
 use crate::sizes::is_counted;
 use std::alloc::Global;
-use zarrs_codec_chain::{
-    PartError, ShardIndex, common_part, met_subchunks, open_shard, part_of_whole,
-    partial_decode_bytes, seen_from_corner,
-};
-use zarrs_codec_leaf::{ByteSource, CodecError, Misfit, Window};
-use zarrs_data_type::{ArrayBytes, ChunkType, RegionCells};
-use zarrs_subset::{ArraySubset, ravel_indices};
+use zarrs_codec_chain::{PartError, ShardPart, Stored, part_of_whole, partial_decode_bytes};
+use zarrs_codec_leaf::{ByteSource, CodecError, Misfit};
+use zarrs_data_type::{ArrayBytes, CellType, ChunkType, RegionCells};
+use zarrs_subset::ArraySubset;
 
 impl CodecChain {
-    /// The cells of a part of a chunk whose bytes are those of a window.
+    /// The cells of a part of a chunk that is stored as these bytes.
     #[cycle(partial_decode)]
     pub(crate) fn partial_decode_chunk<B: ByteSource>(
         &self,
         alloc: Global,
-        source: &B,
-        window: Window,
+        stored: &Stored<'_, B>,
         part: &ArraySubset,
         chunk: &ChunkType<'_>,
     ) -> Result<ArrayBytes<'static>, PartError>
         requires size { position_count (box_of part.now).shape * cell_size (chunk_kind chunk.now)
             < 2 ^ 64 }
         requires part { LiesInShape (box_of part.now) (shape_of chunk.now) }
-        requires window { IsWindow window (B.bytes source.now) }
-        requires may_read { MayRead (B.may_read source.now) window ((chain_meaning self.now).places
-            (chunk_kind chunk.now) (shape_of chunk.now) (box_of part.now)
-            (window_bytes window (B.bytes source.now))) }
+        requires may_read { MayReadOf stored.now ((chain_meaning self.now).places
+            (chunk_kind chunk.now) (shape_of chunk.now) (box_of part.now) (bytes_of stored.now)) }
         ensures cells { IfOk result (λ made. HoldsPart (chain_meaning self.now) chunk.now
-            (box_of part.now) (window_bytes window (B.bytes source.now)) (data_of made)) }
+            (box_of part.now) (bytes_of stored.now) (data_of made)) }
         ensures refused { IfErr result (RefusesToDecodePart (chain_meaning self.now) chunk.now
-            (box_of part.now) (window_bytes window (B.bytes source.now)) (B.refuses source.now)) }
+            (box_of part.now) (bytes_of stored.now) (refuses_of stored.now)) }
     {
         if !self.array_to_array.is_empty() {
-            return self.part_of_decoded(alloc, source, window, part, chunk);
+            return self.part_of_decoded(alloc, stored, part, chunk);
         }
         match &self.array_to_bytes {
             ArrayToBytesCodec::Bytes(codec) => {
                 let data_type = &chunk.cell_type.data_type;
-                partial_decode_bytes(codec, alloc, source, window, part, data_type, chunk.shape)
+                partial_decode_bytes(codec, alloc, stored, part, data_type, chunk.shape)
             }
             ArrayToBytesCodec::Sharding(codec) => codec.partial_decode_shard(
-                alloc, source, window, part, chunk,
+                alloc, stored, part, chunk,
             ),
-            _ => self.part_of_decoded(alloc, source, window, part, chunk),
+            _ => self.part_of_decoded(alloc, stored, part, chunk),
         }
     }
 
@@ -70,28 +65,25 @@ impl CodecChain {
     pub(crate) fn part_of_decoded<B: ByteSource>(
         &self,
         alloc: Global,
-        source: &B,
-        window: Window,
+        stored: &Stored<'_, B>,
         part: &ArraySubset,
         chunk: &ChunkType<'_>,
     ) -> Result<ArrayBytes<'static>, PartError>
         requires whole { DecodesWhole (chain_meaning self.now) }
         requires part { LiesInShape (box_of part.now) (shape_of chunk.now) }
-        requires window { IsWindow window (B.bytes source.now) }
-        requires may_read { MayRead (B.may_read source.now) window (all_places
-            (chunk_kind chunk.now) (shape_of chunk.now) (box_of part.now)
-            (window_bytes window (B.bytes source.now))) }
+        requires may_read { MayReadOf stored.now (all_places (chunk_kind chunk.now)
+            (shape_of chunk.now) (box_of part.now) (bytes_of stored.now)) }
         ensures cells { IfOk result (λ made. HoldsPart (chain_meaning self.now) chunk.now
-            (box_of part.now) (window_bytes window (B.bytes source.now)) (data_of made)) }
+            (box_of part.now) (bytes_of stored.now) (data_of made)) }
         ensures decodes { IfOk result (λ _. IsSome (decoded_of (chain_meaning self.now) chunk.now
-            (window_bytes window (B.bytes source.now)))) }
+            (bytes_of stored.now))) }
         ensures refused { IfErr result (RefusesToDecodePart (chain_meaning self.now) chunk.now
-            (box_of part.now) (window_bytes window (B.bytes source.now)) (B.refuses source.now)) }
+            (box_of part.now) (bytes_of stored.now) (refuses_of stored.now)) }
     {
         if !is_counted(chunk.shape, &chunk.cell_type.data_type) {
             return Err(PartError::Codec(CodecError::SizeOverflow));
         }
-        let encoded = source.read(alloc, window)?;
+        let encoded = stored.read(alloc)?;
         let whole = self.decode_chunk(alloc, encoded.as_slice(), chunk)?;
         let made = part_of_whole(alloc, whole, &chunk.cell_type.data_type, chunk.shape, part)?;
         Ok(made)
@@ -106,85 +98,60 @@ struct Piece {
 }
 
 impl ShardingCodec {
-    /// The cells of a part of a shard whose bytes are those of a window. The index is read first, then each present
-    /// subchunk that the part meets, in a window of its own.
+    /// The cells of a part of a shard that is stored as these bytes. The index is read first, then each present subchunk
+    /// that the part meets.
     #[cycle(partial_decode)]
     fn partial_decode_shard<B: ByteSource>(
         &self,
         alloc: Global,
-        source: &B,
-        window: Window,
+        stored: &Stored<'_, B>,
         part: &ArraySubset,
         chunk: &ChunkType<'_>,
     ) -> Result<ArrayBytes<'static>, PartError>
         requires size { position_count (box_of part.now).shape * cell_size (chunk_kind chunk.now)
             < 2 ^ 64 }
         requires part { LiesInShape (box_of part.now) (shape_of chunk.now) }
-        requires window { IsWindow window (B.bytes source.now) }
-        requires may_read { MayRead (B.may_read source.now) window
-            ((sharding_meaning self.now).places (chunk_kind chunk.now) (shape_of chunk.now)
-            (box_of part.now) (window_bytes window (B.bytes source.now))) }
+        requires may_read { MayReadOf stored.now ((sharding_meaning self.now).places
+            (chunk_kind chunk.now) (shape_of chunk.now) (box_of part.now) (bytes_of stored.now)) }
         ensures cells { IfOk result (λ made. HoldsPart (sharding_meaning self.now) chunk.now
-            (box_of part.now) (window_bytes window (B.bytes source.now)) (data_of made)) }
+            (box_of part.now) (bytes_of stored.now) (data_of made)) }
         ensures refused { IfErr result (RefusesToDecodePart (sharding_meaning self.now) chunk.now
-            (box_of part.now) (window_bytes window (B.bytes source.now)) (B.refuses source.now)) }
+            (box_of part.now) (bytes_of stored.now) (refuses_of stored.now)) }
     {
         let sub = self.extents(alloc)?;
         let at_start = self.index_location().is_at_start();
-        self.partial_decode_cut(at_start, &sub, alloc, source, window, part, chunk)
+        match ShardPart::open(alloc, stored, part, chunk.shape, &sub, at_start)? {
+            Some(read) => self.read_part(alloc, &read, chunk.cell_type),
+            None => Err(PartError::Codec(CodecError::DoesNotFit(Misfit::Bytes))),
+        }
     }
 
-    /// The same, of a shard that is cut into subchunks of this shape.
+    /// The same, of a shard whose index was read.
     #[cycle(partial_decode)]
-    fn partial_decode_cut<B: ByteSource>(
+    fn read_part<B: ByteSource>(
         &self,
-        at_start: bool,
-        sub: &[u64],
         alloc: Global,
-        source: &B,
-        window: Window,
-        part: &ArraySubset,
-        chunk: &ChunkType<'_>,
+        read: &ShardPart<'_, B>,
+        cell_type: &CellType,
     ) -> Result<ArrayBytes<'static>, PartError>
-        requires size { position_count (box_of part.now).shape * cell_size (chunk_kind chunk.now)
+        requires { position_count (read_of read.now).part.shape * cell_size (kind_of cell_type.now)
             < 2 ^ 64 }
-        requires part { LiesInShape (box_of part.now) (shape_of chunk.now) }
-        requires window { IsWindow window (B.bytes source.now) }
-        requires may_read { MayRead (B.may_read source.now) window (shard_places at_start sub.now
-            (chunk_kind chunk.now) (shape_of chunk.now) (box_of part.now)
-            (window_bytes window (B.bytes source.now))) }
-        ensures cells { IfOk result (λ made. HoldsPart (shard_as self.now at_start sub.now)
-            chunk.now (box_of part.now) (window_bytes window (B.bytes source.now)) (data_of made)) }
-        ensures refused { IfErr result (RefusesToDecodePart (shard_as self.now at_start sub.now)
-            chunk.now (box_of part.now) (window_bytes window (B.bytes source.now))
-            (B.refuses source.now)) }
+        ensures all { IfOk result (λ made. HasParts self.now cell_type.now (read_of read.now)
+            (data_of made)) }
+        ensures refused { IfErr result (RefusesSubchunks self.now cell_type.now
+            (read_of read.now)) }
     {
-        let Some(index) = open_shard(alloc, source, window, chunk.shape, sub, at_start)? else {
-            return Err(PartError::Codec(CodecError::DoesNotFit(Misfit::Bytes)));
-        };
-        let met = met_subchunks(alloc, part, chunk.shape, sub)?;
+        let met = read.met(alloc)?;
         // The cells of a part that lies in one subchunk are put into no other data.
         if met.shape().iter().all(|count| *count == 1) {
-            let found = self.decode_piece(
-                at_start,
-                sub,
-                alloc,
-                source,
-                window,
-                &index,
-                part,
-                chunk,
-                met.start(),
-            )?;
+            let found = self.decode_piece(alloc, read, cell_type, met.start())?;
             if let Some(piece) = found {
-                if piece.shared == *part {
+                if piece.shared == *read.part() {
                     return Ok(piece.cells);
                 }
             }
         }
-        self.read_subchunks(
-            at_start, sub, alloc, source, window, &index, part, chunk, &met,
-        )
+        self.read_subchunks(alloc, read, cell_type, &met)
     }
 
     /// The cells of the subchunks that a part of a shard meets, put into data of the part that is all fill. `met` is the
@@ -192,38 +159,22 @@ impl ShardingCodec {
     #[cycle(partial_decode)]
     fn read_subchunks<B: ByteSource>(
         &self,
-        at_start: bool,
-        sub: &[u64],
         alloc: Global,
-        source: &B,
-        window: Window,
-        index: &ShardIndex,
-        part: &ArraySubset,
-        chunk: &ChunkType<'_>,
+        read: &ShardPart<'_, B>,
+        cell_type: &CellType,
         met: &ArraySubset,
     ) -> Result<ArrayBytes<'static>, PartError>
-        requires size { position_count (box_of part.now).shape * cell_size (chunk_kind chunk.now)
-            < 2 ^ 64 }
-        requires part { LiesInShape (box_of part.now) (shape_of chunk.now) }
-        requires window { IsWindow window (B.bytes source.now) }
-        requires may_read { MayRead (B.may_read source.now) window (shard_places at_start sub.now
-            (chunk_kind chunk.now) (shape_of chunk.now) (box_of part.now)
-            (window_bytes window (B.bytes source.now))) }
-        requires shard { IsShard index.now at_start (shape_of chunk.now) sub.now
-            (window_bytes window (B.bytes source.now)) }
-        requires met { MeetsPart sub.now (box_of part.now) (box_of met.now) }
-        ensures all { IfOk result (λ made. HasAllParts (chunk_kind chunk.now)
-            (inner_decoded self.now chunk.now sub.now) (chunk_fill chunk.now) (shape_of chunk.now)
-            sub.now (box_of part.now) (parts_of index.now
-            (window_bytes window (B.bytes source.now))) (data_of made)) }
-        ensures refused { IfErr result (RefusesSubchunks self.now chunk.now sub.now
-            (box_of part.now) (parts_of index.now (window_bytes window (B.bytes source.now)))
-            (B.refuses source.now)) }
+        requires size { position_count (read_of read.now).part.shape * cell_size
+            (kind_of cell_type.now) < 2 ^ 64 }
+        requires met { MeetsPart (read_of read.now).sub (read_of read.now).part (box_of met.now) }
+        ensures all { IfOk result (λ made. HasParts self.now cell_type.now (read_of read.now)
+            (data_of made)) }
+        ensures refused { IfErr result (RefusesSubchunks self.now cell_type.now
+            (read_of read.now)) }
     {
-        let Ok(count) = part.num_elements() else {
+        let Ok(count) = read.part().num_elements() else {
             unreachable!()
         };
-        let cell_type = chunk.cell_type;
         let held = RegionCells::new_fill_value(
             alloc,
             &cell_type.data_type,
@@ -235,18 +186,7 @@ impl ShardingCodec {
         };
         let mut made = held;
         loop {
-            made = self.read_subchunk(
-                at_start,
-                sub,
-                alloc,
-                source,
-                window,
-                index,
-                part,
-                chunk,
-                made,
-                walk.current(),
-            )?;
+            made = self.read_subchunk(alloc, read, cell_type, made, walk.current())?;
             if !walk.advance() {
                 return Ok(made.into_array_bytes(alloc)?);
             }
@@ -258,45 +198,27 @@ impl ShardingCodec {
     #[cycle(partial_decode)]
     fn read_subchunk<B: ByteSource>(
         &self,
-        at_start: bool,
-        sub: &[u64],
         alloc: Global,
-        source: &B,
-        window: Window,
-        index: &ShardIndex,
-        part: &ArraySubset,
-        chunk: &ChunkType<'_>,
+        read: &ShardPart<'_, B>,
+        cell_type: &CellType,
         held: RegionCells,
         indices: &[u64],
     ) -> Result<RegionCells, PartError>
-        requires size { position_count (box_of part.now).shape * cell_size (chunk_kind chunk.now)
-            < 2 ^ 64 }
-        requires part { LiesInShape (box_of part.now) (shape_of chunk.now) }
-        requires window { IsWindow window (B.bytes source.now) }
-        requires may_read { MayRead (B.may_read source.now) window (shard_places at_start sub.now
-            (chunk_kind chunk.now) (shape_of chunk.now) (box_of part.now)
-            (window_bytes window (B.bytes source.now))) }
-        requires shard { IsShard index.now at_start (shape_of chunk.now) sub.now
-            (window_bytes window (B.bytes source.now)) }
-        requires held { HasCells (chunk_kind chunk.now) (region_data held)
-            (position_count (box_of part.now).shape) }
-        ensures read { IfOk result (λ made. ReadsSubchunk (chunk_kind chunk.now)
-            (inner_decoded self.now chunk.now sub.now) (chunk_fill chunk.now) (shape_of chunk.now)
-            sub.now (box_of part.now) (parts_of index.now
-            (window_bytes window (B.bytes source.now))) indices.now (region_data held)
-            (region_data made)) }
-        ensures refused { IfErr result (RefusesSubchunks self.now chunk.now sub.now
-            (box_of part.now) (parts_of index.now (window_bytes window (B.bytes source.now)))
-            (B.refuses source.now)) }
+        requires size { position_count (read_of read.now).part.shape * cell_size
+            (kind_of cell_type.now) < 2 ^ 64 }
+        requires held { HasCells (kind_of cell_type.now) (region_data held)
+            (position_count (read_of read.now).part.shape) }
+        ensures read { IfOk result (λ made. ReadsOne self.now cell_type.now (read_of read.now)
+            indices.now (region_data held) (region_data made)) }
+        ensures refused { IfErr result (RefusesSubchunks self.now cell_type.now
+            (read_of read.now)) }
     {
-        let found = self.decode_piece(
-            at_start, sub, alloc, source, window, index, part, chunk, indices,
-        )?;
-        let Some(piece) = found else {
+        let Some(piece) = self.decode_piece(alloc, read, cell_type, indices)? else {
             return Ok(held);
         };
         let Piece { shared, cells } = piece;
-        let made = held.with_owned_part(alloc, &chunk.cell_type.data_type, part, cells, &shared)?;
+        let data_type = &cell_type.data_type;
+        let made = held.with_owned_part(alloc, data_type, read.part(), cells, &shared)?;
         Ok(made)
     }
 
@@ -305,88 +227,60 @@ impl ShardingCodec {
     #[cycle(partial_decode)]
     fn decode_piece<B: ByteSource>(
         &self,
-        at_start: bool,
-        sub: &[u64],
         alloc: Global,
-        source: &B,
-        window: Window,
-        index: &ShardIndex,
-        part: &ArraySubset,
-        chunk: &ChunkType<'_>,
+        read: &ShardPart<'_, B>,
+        cell_type: &CellType,
         indices: &[u64],
     ) -> Result<Option<Piece>, PartError>
-        requires size { position_count (box_of part.now).shape * cell_size (chunk_kind chunk.now)
+        requires { position_count (read_of read.now).part.shape * cell_size (kind_of cell_type.now)
             < 2 ^ 64 }
-        requires part { LiesInShape (box_of part.now) (shape_of chunk.now) }
-        requires window { IsWindow window (B.bytes source.now) }
-        requires may_read { MayRead (B.may_read source.now) window (shard_places at_start sub.now
-            (chunk_kind chunk.now) (shape_of chunk.now) (box_of part.now)
-            (window_bytes window (B.bytes source.now))) }
-        requires shard { IsShard index.now at_start (shape_of chunk.now) sub.now
-            (window_bytes window (B.bytes source.now)) }
-        ensures none { IfOk result (λ made. IfNone made (HasNoPiece (chunk_kind chunk.now)
-            (inner_decoded self.now chunk.now sub.now) (chunk_fill chunk.now) (shape_of chunk.now)
-            sub.now (box_of part.now) (parts_of index.now
-            (window_bytes window (B.bytes source.now))) indices.now)) }
-        ensures piece { IfOk result (λ made. IfSome made (λ piece. HasPiece (chunk_kind chunk.now)
-            (inner_decoded self.now chunk.now sub.now) (chunk_fill chunk.now) (shape_of chunk.now)
-            sub.now (box_of part.now) (parts_of index.now
-            (window_bytes window (B.bytes source.now))) indices.now (box_of piece.shared)
-            (data_of piece.cells))) }
-        ensures refused { IfErr result (RefusesSubchunks self.now chunk.now sub.now
-            (box_of part.now) (parts_of index.now (window_bytes window (B.bytes source.now)))
-            (B.refuses source.now)) }
+        ensures none { IfOk result (λ made. IfNone made (HasNoPieceOf self.now cell_type.now
+            (read_of read.now) indices.now)) }
+        ensures piece { IfOk result (λ made. IfSome made (λ piece. HasPieceOf self.now cell_type.now
+            (read_of read.now) indices.now (box_of piece.shared) (data_of piece.cells))) }
+        ensures refused { IfErr result (RefusesSubchunks self.now cell_type.now
+            (read_of read.now)) }
     {
-        // The bytes of the source are counted, so that no place passes `u64`.
-        let _counted = source.size();
-        let Some(number) = ravel_indices(indices, index.subchunks.grid()) else {
+        let Some(number) = read.number(indices) else {
             return Ok(None);
         };
-        let Some(range) = index.ranges[number as usize] else {
+        let Some(stored) = read.subchunk(number) else {
             return Ok(None);
         };
-        let subset = index.subchunks.subset(alloc, number)?;
-        let shared = common_part(alloc, part, &subset)?;
-        if shared.is_empty() {
+        let Some(share) = read.share(alloc, number)? else {
             return Ok(None);
-        }
-        let own = seen_from_corner(alloc, &shared, subset.start())?;
-        let own_window = Window {
-            offset: window.offset + range.start as u64,
-            len: (range.end - range.start) as u64,
         };
         let inner = ChunkType {
-            cell_type: chunk.cell_type,
-            shape: sub,
+            cell_type,
+            shape: read.subchunk_shape(),
         };
-        let cells = self.partial_decode_inner(alloc, source, own_window, &own, &inner)?;
-        Ok(Some(Piece { shared, cells }))
+        let cells = self.partial_decode_inner(alloc, &stored, &share.own, &inner)?;
+        Ok(Some(Piece {
+            shared: share.shared,
+            cells,
+        }))
     }
 
-    /// The cells of a part of a subchunk of this shape whose bytes are those of a window.
+    /// The cells of a part of a subchunk that is stored as these bytes.
     #[cycle(partial_decode)]
     fn partial_decode_inner<B: ByteSource>(
         &self,
         alloc: Global,
-        source: &B,
-        window: Window,
+        stored: &Stored<'_, B>,
         part: &ArraySubset,
         chunk: &ChunkType<'_>,
     ) -> Result<ArrayBytes<'static>, PartError>
         requires size { position_count (box_of part.now).shape * cell_size (chunk_kind chunk.now)
             < 2 ^ 64 }
         requires part { LiesInShape (box_of part.now) (shape_of chunk.now) }
-        requires window { IsWindow window (B.bytes source.now) }
-        requires may_read { MayRead (B.may_read source.now) window
-            ((chain_meaning (inner_chain_of self.now)).places (chunk_kind chunk.now)
-            (shape_of chunk.now) (box_of part.now) (window_bytes window (B.bytes source.now))) }
+        requires may_read { MayReadAll stored.now }
         ensures cells { IfOk result (λ made. HoldsPart (chain_meaning (inner_chain_of self.now))
-            chunk.now (box_of part.now) (window_bytes window (B.bytes source.now)) (data_of made)) }
+            chunk.now (box_of part.now) (bytes_of stored.now) (data_of made)) }
         ensures refused { IfErr result (RefusesToDecodePart
             (chain_meaning (inner_chain_of self.now)) chunk.now (box_of part.now)
-            (window_bytes window (B.bytes source.now)) (B.refuses source.now)) }
+            (bytes_of stored.now) (refuses_of stored.now)) }
     {
         self.inner
-            .partial_decode_chunk(alloc, source, window, part, chunk)
+            .partial_decode_chunk(alloc, stored, part, chunk)
     }
 }

@@ -14,3 +14,5 @@ pub mod SubchunkSteps
 pub mod SubchunkWalks
 pub mod Turns
 pub mod AllOfIt
+pub mod ShardOpening
+pub mod OpenShards

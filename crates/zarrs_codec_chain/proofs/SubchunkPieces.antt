@@ -12,12 +12,9 @@ use Rattle.zarrs_codec_shard.specs.declared.shard_index.SubchunkRange.{SubchunkR
 use Rattle.zarrs_codec_shard.specs.ShardIndex.{range_entry, range_part, IsRangeWithin}
 use Rattle.zarrs_codec_shard.specs.Shards.{absent, entry_bytes, index_in}
 use Rattle.zarrs_codec_shard.proofs.ShardBytes.{entry_len, entry_offset, length-entry_bytes, not_absent}
-use Rattle.zarrs_data_type_bytes.proofs.Pieces.{pieces-flat_map}
 use Rattle.zarrs_codec_shard.specs.Subchunks.{corner, is_cut_by, quotients, subchunk_box, subchunk_count}
 use Rattle.zarrs_codec_shard.proofs.Grids.{corner_long, cut_at, cut_len}
 use Rattle.zarrs_codec_shard.proofs.SubchunkBoxes.{long_corner}
-use Rattle.zarrs_codec_leaf.specs.Sources.{IsWindow, MayRead, window_bytes}
-use Rattle.zarrs_codec_leaf.specs.declared.source.Window.{Window}
 use Rattle.zarrs_subset.specs.Boxes.{position_count, InShape, place, unravel}
 use Rattle.zarrs_subset.specs.Pieces.{piece_at}
 use Rattle.zarrs_subset.specs.Regions.{Box, IsLong, LiesInShape, box_from, overlap_of, seen_from, LiesInBox}
@@ -84,7 +81,7 @@ module _ (s sub : List ℕ) (part : Box) (i : List ℕ) (n : ℕ) (cut : is_cut_
   own_within : (a x b y f e o : ℕ) → f ≡ max a b → e ≡ min (a + x) (b + y) - max a b → o ≡ f - b → 0 < e → o + e ≤ y
   own_within a x b y f e o first extent moved some = omega arith
 
-  shared_inside : AllSome shared_box.shape → LiesInBox shared_box part
+  pub shared_inside : AllSome shared_box.shape → LiesInBox shared_box part
   shared_inside full = record {
     same_length = start_len;
     starts = λ k lt. omega (arith, start_at k lt);
@@ -124,18 +121,7 @@ module _ (s sub : List ℕ) (part : Box) (i : List ℕ) (n : ℕ) (cut : is_cut_
 
 -- ---- the bytes
 
--- the window of a range of a window
-sub_window : (offset len start end : ℕ) (source : List ℕ) → start ≤ end → end ≤ len → take (end - start) (drop (offset + start) source) ≡ slice_range (take len (drop offset source)) start end
-sub_window offset len start end source order inside =
-    let xs = drop offset source in
-    let split : len ≡ start + (len - start) = omega arith in
-    ap (take (end - start)) (sym (drop-drop start offset source))
-    ∙ sym
-    (ap (λ n. take (end - start) (drop start (take n xs))) split
-    ∙ ap (take (end - start)) (drop-take start (len - start) xs)
-    ∙ take-take (end - start) (len - start) (drop start xs) (omega arith))
-
-any_at : {X : Type 0} (f : X → Bool) (xs : List X) (j : ℕ) (d : X) → j < length xs → f (get_or xs j d) ≡ true → list_any f xs ≡ true
+pub any_at : {X : Type 0} (f : X → Bool) (xs : List X) (j : ℕ) (d : X) → j < length xs → f (get_or xs j d) ≡ true → list_any f xs ≡ true
 any_at f [] j d lt is = absurd (omega arith)
 any_at f (x ∷ xs) zero d lt is = ap (λ b. b || list_any f xs) is
 any_at f (x ∷ xs) (suc j) d lt is = ap (λ b. f x || b) (any_at f xs j d (omega arith) is) ∙ or_true (f x)
@@ -144,21 +130,8 @@ any_at f (x ∷ xs) (suc j) d lt is = ap (λ b. f x || b) (any_at f xs j d (omeg
     or_true true = refl
     or_true false = refl
 
--- the entry of a subchunk in the index of its shard
-entry_at : (ranges : List (Option SubchunkRange)) (n : ℕ) → n < length ranges → piece_at 16 (flat_map range_entry ranges) n ≡ range_entry (get_or ranges n None)
-entry_at ranges n lt =
-    let count = length ranges in
-    let all = pieces-flat_map range_entry 16 ranges (λ k d below. length-range_entry (get_or ranges k d)) in
-    sym (get_or-map-range_with_len (piece_at 16 (flat_map range_entry ranges)) 0 count n n [] lt (omega arith))
-    ∙ ap (λ l. get_or l n []) all
-    ∙ get_or-map range_entry ranges n None [] lt
-  where
-    length-range_entry : (r : Option SubchunkRange) → length (range_entry r) ≡ 16
-    length-range_entry None = length-entry_bytes absent absent
-    length-range_entry (Some r) = length-entry_bytes r.start (r.end - r.start)
-
--- it names the places of the range
-named_place : (r : SubchunkRange) (x : ℕ) → r.start ≤ r.end → r.end < 2 ^ 64 → r.start ≤ x → x < r.end → is_range_place (range_entry (Some r)) x ≡ true
+-- an entry names the places of its range
+pub named_place : (r : SubchunkRange) (x : ℕ) → r.start ≤ r.end → r.end < 2 ^ 64 → r.start ≤ x → x < r.end → is_range_place (range_entry (Some r)) x ≡ true
 named_place r x order small from below =
     let o = r.start in
     let l = r.end - r.start in
@@ -168,60 +141,6 @@ named_place r x order small from below =
     ∙ ap (λ b. not ((eqb o absent) && (eqb b absent)) && (nat_le o x && nat_lt x (o + b))) (entry_len o l (omega arith))
     ∙ ap (λ b. not b && (nat_le o x && nat_lt x (o + l))) (not_absent o l (omega arith))
     ∙ and_from (nat_le o x) (nat_lt x (o + l)) (le-leb o x from) (lt-ltb x (o + l) end)
-
--- the window of a subchunk, its bytes, and its places
-pub record IsOwnWindow (may_read : ℕ → Bool) (window own : Window) (source : List ℕ) (ranges : List (Option SubchunkRange)) (n : ℕ) : Type 0 where
-  pub inside : IsWindow own source
-  pub bytes_are : slice_index_or (map (range_part (window_bytes window source)) ranges) n None ≡ Some (window_bytes own source)
-  pub allowed : (places : ℕ → Bool) → ((place : ℕ) → places place ≡ true → place < length (window_bytes own source)) → MayRead may_read own places
-
-pub own_window : (may_read : ℕ → Bool) (window own : Window) (source : List ℕ) (ranges : List (Option SubchunkRange)) (n : ℕ) (range : SubchunkRange)
-    (at_start : Bool) (sub : List ℕ) (k : Kind) (s : List ℕ) (part : Box)
-    → IsWindow window source → n < length ranges → n < subchunk_count s sub → slice_index_or ranges n None ≡ Some range
-    → own.offset ≡ window.offset + range.start → own.len ≡ range.end - range.start
-    → All (IsRangeWithin (length (window_bytes window source))) ranges
-    → index_in at_start (subchunk_count s sub) (window_bytes window source) ≡ flat_map range_entry ranges → length source < 2 ^ 64
-    → boxes_meet part (subchunk_box s sub n) ≡ true
-    → MayRead may_read window (shard_places at_start sub k s part (window_bytes window source))
-    → IsOwnWindow may_read window own source ranges n
-own_window may_read window own source ranges n range at_start sub k s part inside lt below found offset_is len_is within entries small_source meets may =
-    let E = window_bytes window source in
-    let count = subchunk_count s sub in
-    let len : length E ≡ window.len = length-take-le window.len (drop window.offset source) (omega (arith, length-drop window.offset source)) in
-    let fits = subst (IsRangeWithin (length E)) found (within n None lt) in
-    let order : range.start ≤ range.end = fits.0 in
-    let end : range.end ≤ window.len = omega (arith, fits.1) in
-    let same : window_bytes own source ≡ slice_range E range.start range.end =
-    ap (λ o. take own.len (drop o source)) offset_is ∙ ap (λ l. take l (drop (window.offset + range.start) source)) len_is ∙ sub_window window.offset window.len range.start range.end source order end in
-    let own_inside : own.offset + own.len ≤ length source = omega arith in
-    let own_len : length (window_bytes own source) ≡ own.len = length-take-le own.len (drop own.offset source) (omega (arith, length-drop own.offset source)) in
-    record {
-      inside = own_inside;
-      bytes_are = get_or-map (range_part E) ranges n None None lt ∙ ap (range_part E) found ∙ ap Some (sym same);
-      allowed = λ places short place is.
-          let small : place < range.end - range.start = omega (arith, short place is) in
-          let x = range.start + place in
-          let index = index_in at_start count E in
-          let named : is_range_place (piece_at 16 index n) x ≡ true =
-          ap (λ l. is_range_place (piece_at 16 l n) x) entries
-          ∙ ap (λ e. is_range_place e x) (entry_at ranges n lt ∙ ap range_entry found)
-          ∙ named_place range x order (omega arith) (omega arith) (omega arith) in
-          let test : (boxes_meet part (subchunk_box s sub n) && is_range_place (piece_at 16 index n) x) ≡ true =
-          and_from (boxes_meet part (subchunk_box s sub n)) (is_range_place (piece_at 16 index n) x) meets named in
-          let any : list_any (λ j. boxes_meet part (subchunk_box s sub j) && is_range_place (piece_at 16 index j) x) (range_with_len 0 count) ≡ true =
-          any_at (λ j. boxes_meet part (subchunk_box s sub j) && is_range_place (piece_at 16 index j) x) (range_with_len 0 count) n 0 (omega (arith, length-range_with_len 0 count))
-          (ap (λ j. boxes_meet part (subchunk_box s sub j) && is_range_place (piece_at 16 index j) x) (get_or-range_with_len 0 count n 0 below ∙ (let e : 0 + n ≡ n = omega arith in e)) ∙ test) in
-          let at : own.offset + place ≡ window.offset + x = omega arith in
-          ap may_read at
-          ∙ may x
-          (and_from (nat_lt x (length E)) (is_index_place at_start count (length E) x || list_any (λ j. boxes_meet part (subchunk_box s sub j) && is_range_place (piece_at 16 index j) x) (range_with_len 0 count))
-          (lt-ltb x (length E) (omega arith))
-          (ap (λ b. is_index_place at_start count (length E) x || b) any ∙ or_true (is_index_place at_start count (length E) x)));
-    }
-  where
-    or_true : (b : Bool) → (b || true) ≡ true
-    or_true true = refl
-    or_true false = refl
 
 -- ---- the subchunks that a part meets
 

@@ -10,3 +10,6 @@ pub mod ShardChains
 pub mod ShardInto
 pub mod ShardParts
 pub mod Chunks
+pub mod Stored
+pub mod ShardReads
+pub mod OpenShards

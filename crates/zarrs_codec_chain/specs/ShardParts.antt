@@ -1,15 +1,12 @@
 -- What a read of a part of a shard has after some of its subchunks.
 use Rattle.std.specs.Prelude.{◌≡◌, ℕ, ◌<◌, Bool, true, false, Option, None, Some}
-use Rattle.std.specs.Prelude.{List, ◌∷◌, [], ◌++◌, length, map, slice_get, slice_index_or, nat_eq, All}
+use Rattle.std.specs.Prelude.{List, ◌∷◌, [], ◌++◌, length, slice_get, slice_index_or, nat_eq}
 use Rattle.std.specs.Cmp.Lexicographic.{pointwise}
-use Rattle.std.specs.List.{flat_map, list_any}
+use Rattle.std.specs.List.{list_any}
 use Rattle.zarrs_data_type.specs.ArrayData.{ArrayData}
 use Rattle.zarrs_data_type.specs.Cells.{cells}
 use Rattle.zarrs_codec_shard.specs.Sharded.{SubchunkMeaning, sharded_decoded}
-use Rattle.zarrs_codec_shard.specs.ShardIndex.{range_entry, range_part, IsRangeWithin}
-use Rattle.zarrs_codec_shard.specs.Shards.{index_in, shard_parts}
-use Rattle.zarrs_codec_shard.specs.SubchunkData.{chunk_shape, subchunk_shape}
-use Rattle.zarrs_codec_shard.specs.Subchunks.{is_cut_by, quotients, remainders, subchunk_count}
+use Rattle.zarrs_codec_shard.specs.Subchunks.{quotients, remainders}
 use Rattle.zarrs_subset.specs.Boxes.{position_count, place}
 use Rattle.zarrs_subset.specs.Regions.{Box, Holds, cell_in}
 use Rattle.zarrs_data_type.specs.Cell.{Cell}
@@ -18,7 +15,6 @@ use Rattle.zarrs_codec_leaf.specs.declared.error.CodecError.TheVariants as codec
 use Rattle.zarrs_codec_leaf.specs.Sources.{RefusesSource}
 use Rattle.zarrs_codec_chain.specs.declared.error.PartError.{PartError}
 use Rattle.zarrs_codec_chain.specs.declared.error.PartError.TheVariants.{Codec, Source}
-use Rattle.zarrs_codec_chain.specs.declared.shard.ShardIndex.{ShardIndex}
 
 -- the chain of subchunks decodes as this function does
 abbrev pub DecodesAs : SubchunkMeaning → (List ℕ → Option (List Cell)) → Type 0
@@ -28,15 +24,6 @@ DecodesAs m decoded = (encoded : List ℕ) → m.decoded encoded ≡ decoded enc
 abbrev pub IsNoShard : (at_start : Bool) (shape sub encoded : List ℕ) → Type 0
 IsNoShard at_start shape sub encoded =
     (m : SubchunkMeaning) (k : Kind) (fill : Cell) → sharded_decoded m at_start k fill shape sub encoded ≡ None
-
--- the shard is cut as its index is, and its ranges are the parts that its index names
-pub record IsShard (index : ShardIndex) (at_start : Bool) (shape sub encoded : List ℕ) : Type 0 where
-  pub cut : is_cut_by shape sub ≡ true
-  pub chunk : chunk_shape index.subchunks ≡ shape
-  pub subchunk : subchunk_shape index.subchunks ≡ sub
-  pub parts : shard_parts at_start (subchunk_count shape sub) encoded ≡ Some (map (range_part encoded) index.ranges.items)
-  pub within : All (IsRangeWithin (length encoded)) index.ranges.items
-  pub entries : index_in at_start (subchunk_count shape sub) encoded ≡ flat_map range_entry index.ranges.items
 
 -- whether these are the indices of one of the subchunks
 abbrev pub is_among : List (List ℕ) → List ℕ → Bool

@@ -3,7 +3,6 @@ ghost use Rattle.std.specs.Prelude.{◌≡◌, ℕ, ◌+◌, ◌*◌, ◌<◌, �
 ghost use Rattle.std.specs.Prelude.{IfErr, IsSome, IsTrue, OnOk, map, reverse, slice_index, slice_range};
 ghost use Rattle.std.specs.List.{flat_map};
 ghost use Rattle.zarrs_codec_leaf.specs.Bytes.{bytes_meaning_of, endian_of, reverses};
-ghost use Rattle.zarrs_codec_leaf.specs.Sources.{IsWindow, MayRead, window_bytes};
 ghost use Rattle.zarrs_subset.specs.Boxes.{BoxFits, position_count};
 ghost use Rattle.zarrs_subset.specs.Cells.{BoxCopied};
 ghost use Rattle.zarrs_subset.specs.Regions.{LiesInShape, box_of};
@@ -15,19 +14,21 @@ ghost use Rattle.zarrs_codec_chain.specs.BytesInto.{AreCells, IsTurned, PutsPart
 ghost use Rattle.zarrs_codec_chain.specs.Parts.{DecodesPartAt};
 ghost use Rattle.zarrs_codec_chain.specs.Places.{cell_places};
 ghost use Rattle.zarrs_codec_chain.specs.PartRefusals.{RefusesPartDecoding};
+ghost use Rattle.zarrs_codec_chain.specs.Stored.{MayReadOf, bytes_of, refuses_of};
 
 use crate::bytes::{is_length_of, partial_decode_bytes};
 use crate::error::PartError;
+use crate::stored::Stored;
 use std::alloc::Global;
-use zarrs_codec_leaf::{ByteSource, BytesCodec, Endianness, LeafCodec, Window};
+use zarrs_codec_leaf::{ByteSource, BytesCodec, Endianness, LeafCodec};
 use zarrs_data_type::{ArrayBytesDecodeIntoTarget, DataType};
 use zarrs_subset::{ArraySubset, Corner, copy_box};
 
 /// A part of more dimensions is decoded by way of a list.
 const MOST_DIMENSIONS: usize = 64;
 
-/// Decodes a part of a chunk, which has the shape of the target's box, into the box. The chunk's bytes are those of a
-/// window. Every byte outside the box stays; after a refusal the inside is open.
+/// Decodes a part of a chunk that is stored as these bytes, and has the shape of the target's box, into the box. Every
+/// byte outside the box stays; after a refusal the inside is open.
 ///
 /// Numbers and raw cells that the source lends go straight to their places, in at most 64 dimensions. Otherwise the
 /// cells are read as `partial_decode_bytes` reads them, and then written.
@@ -37,41 +38,37 @@ const MOST_DIMENSIONS: usize = 64;
 pub fn partial_decode_bytes_into<B: ByteSource>(
     codec: &BytesCodec,
     alloc: Global,
-    source: &B,
-    window: Window,
+    stored: &Stored<'_, B>,
     part: &ArraySubset,
     data_type: &DataType,
     shape: &[u64],
     target: &mut ArrayBytesDecodeIntoTarget<'_, '_, '_>,
 ) -> Result<(), PartError>
     requires part { LiesInShape (box_of part.now) shape.now }
-    requires window { IsWindow window (B.bytes source.now) }
-    requires may_read { MayRead (B.may_read source.now) window
-        (cell_places (kind data_type.now) shape.now (box_of part.now)
-        (window_bytes window (B.bytes source.now))) }
+    requires may_read { MayReadOf stored.now (cell_places (kind data_type.now) shape.now
+        (box_of part.now) (bytes_of stored.now)) }
     requires takes { takes_type target.old.cell_size target.old.depth (kind data_type.now) ≡ true }
     requires same_shape { (target_box target.old).shape ≡ (box_of part.now).shape }
     ensures kept { KeepsTarget target.old target.new }
     ensures cells { OnOk result (DecodesPartAt (kind data_type.now) shape.now (box_of part.now)
         ((bytes_meaning_of (endian_of codec.now)).decoded (kind data_type.now)
-        (position_count shape.now) (window_bytes window (B.bytes source.now)))
+        (position_count shape.now) (bytes_of stored.now))
         (parent_box target.old) (target_box target.old) (data_of_target target.new)) }
     ensures whole { (box_of part.now).shape ≡ shape.now → OnOk result (IsSome
         ((bytes_meaning_of (endian_of codec.now)).decoded (kind data_type.now)
-        (position_count shape.now) (window_bytes window (B.bytes source.now)))) }
+        (position_count shape.now) (bytes_of stored.now))) }
     ensures refused { IfErr result (RefusesPartDecoding
         ((bytes_meaning_of (endian_of codec.now)).decoded (kind data_type.now)
-        (position_count shape.now) (window_bytes window (B.bytes source.now))) ⊥
-        (B.refuses source.now)) }
+        (position_count shape.now) (bytes_of stored.now)) ⊥
+        (refuses_of stored.now)) }
 {
-    if let Some(bytes) = source.lent() {
-        if has_rows(part) && are_cells(codec, window.len, data_type, shape) {
-            let array = window_of(window, bytes);
+    if let Some(array) = stored.lent() {
+        if has_rows(part) && are_cells(codec, stored.window.len, data_type, shape) {
             put_part(codec, array, shape, part, data_type, target);
             return Ok(());
         }
     }
-    let cells = partial_decode_bytes(codec, alloc, source, window, part, data_type, shape)?;
+    let cells = partial_decode_bytes(codec, alloc, stored, part, data_type, shape)?;
     target.write_cells(alloc, &cells)?;
     Ok(())
 }
@@ -173,16 +170,6 @@ fn turn_part<T: Turning<N>, const N: usize>(
         target.region.start(),
         part.shape(),
     );
-}
-
-/// The bytes of the window, out of all of them.
-fn window_of(window: Window, bytes: &[u8]) -> &[u8]
-    requires { IsWindow window bytes.now }
-    ensures { result.now ≡ window_bytes window bytes.now }
-{
-    let start = window.offset as usize;
-    let end = start + window.len as usize;
-    &bytes[start..end]
 }
 
 /// Whether rows of the part go straight to their places. They are found dimension by dimension, by calls as deep as there

@@ -2,7 +2,7 @@
 //!
 //! Layouts and engines use `ChainTraits` and name no codec. It has `encode`, `decode`, `compact`, `partial_decode`,
 //! `partial_encode`, and `decode_into` a target. `CodecOptions` has what a caller chooses for a call. `zarrs_codec`
-//! uses `partial_decode_bytes`, `open_shard` and `part_of_whole`, which read the parts of chunks.
+//! uses `partial_decode_bytes`, `ShardPart` and `part_of_whole`, which read the parts of chunks from `Stored` bytes.
 //!
 //! The ghost member `meaning` of `ChainTraits` is a `ChainMeaning` of `specs/Chain.antt`, and its law is
 //! `IsLawfulChain`. `encoded` and `decoded` are the bytes of cells and the cells of bytes. `places` says which bytes
@@ -16,6 +16,8 @@ mod bytes_into;
 mod error;
 mod options;
 mod shard;
+mod shard_part;
+mod stored;
 mod traits;
 mod whole;
 
@@ -26,6 +28,8 @@ pub use options::{
     CodecMetadataOptions, CodecOptions, CodecSpecificOptions, ShardingCodecOptions,
     SubchunkWriteOrder,
 };
-pub use shard::{ShardIndex, common_part, met_subchunks, open_shard, seen_from_corner, shifted_to};
+pub use shard::{common_part, seen_from_corner};
+pub use shard_part::{ShardPart, Share, moved_to};
+pub use stored::Stored;
 pub use traits::ChainTraits;
 pub use whole::part_of_whole;

@@ -1,6 +1,6 @@
 -- The index of a shard, read entry by entry.
-use Rattle.std.proofs.Common.{◌≡◌, ℕ, zero, suc, ◌+◌, ◌-◌, ◌*◌, ◌<◌, inl, inr, List, [], ◌∷◌, ◌++◌, length, map, take, drop, get_or, Option, None, Some, refl, sym, ap, ◌∙◌, arith}
-use Rattle.std.specs.Prelude.{slice_range, All}
+use Rattle.std.proofs.Common.{◌≡◌, ℕ, zero, suc, ◌+◌, ◌-◌, ◌*◌, ◌<◌, inl, inr, List, [], ◌∷◌, ◌++◌, length, map, take, drop, get_or, Option, None, Some, Bool, true, refl, sym, ap, ◌∙◌, arith}
+use Rattle.std.specs.Prelude.{slice_range, All, is_some}
 use Rattle.std.proofs.lemmas.List.Elements.{All-append}
 use Rattle.std.specs.List.{flat_map}
 use Rattle.std.specs.Int.{w64, to_le_bytes, from_le_bytes}
@@ -79,3 +79,20 @@ read_none_at n k start end shard index entry lt same missing =
     (get_or-map read (pieces 16 n index) k [] None (omega arith)
     ∙ ap read (get_or-map-range_with_len (λ j. slice_range index (j * 16) (j * 16 + 16)) 0 n k k [] lt (omega arith) ∙ sym same)
     ∙ missing)
+
+-- one more entry that names a range, or is that of an absent subchunk
+pub named_more : (n start end : ℕ) (shard index : List ℕ) (o : Option (Option (List ℕ))) → named_part shard start end (slice_range index (n * 16) (n * 16 + 16)) ≡ o → is_some o ≡ true
+    → is_some (all_present (map (named_part shard start end) (pieces 16 n index))) ≡ true → is_some (all_present (map (named_part shard start end) (pieces 16 (n + 1) index))) ≡ true
+named_more n start end shard index None here some before = cc
+named_more n start end shard index (Some part) here some before = go (all_present (map read (pieces 16 n index))) refl before
+  where
+    read : List ℕ → Option (Option (List ℕ))
+    read entry = named_part shard start end entry
+
+    go : (all : Option (List (Option (List ℕ)))) → all_present (map read (pieces 16 n index)) ≡ all → is_some all ≡ true → is_some (all_present (map read (pieces 16 (n + 1) index))) ≡ true
+    go None is some = cc
+    go (Some parts) is some =
+        let e = slice_range index (n * 16) (n * 16 + 16) in
+        ap (λ l. is_some (all_present (map read l))) (pieces_more 16 n index)
+        ∙ ap (λ l. is_some (all_present l)) (map-append read (pieces 16 n index) (e ∷ []))
+        ∙ ap is_some (all_present-more (map read (pieces 16 n index)) parts (read e) part is here)

@@ -21,5 +21,5 @@ mod subchunks;
 pub use compact::compact_shard;
 pub use error::CompactError;
 pub use patch::{PartialWrite, ShardPatch, stored_ranges};
-pub use shard_index::{ShardWriter, SubchunkRange, read_entries, read_index};
+pub use shard_index::{ShardWriter, SubchunkRange, are_entries, range_at, read_index};
 pub use subchunks::{Subchunks, is_cut_by};

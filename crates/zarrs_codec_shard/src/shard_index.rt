@@ -1,13 +1,14 @@
 //! The index of a shard, and the writing of shards.
 ghost use Rattle.std.specs.Prelude.{◌≡◌, ℕ, ◌*◌, ◌<◌, ◌≤◌, ◌^◌, ◌++◌, [], Some, None, Bool, List, Option};
-ghost use Rattle.std.specs.Prelude.{All, IfErr, IfOk, IfSome, IsSome, length, map, drop, not, option_map, ◌&&◌};
+ghost use Rattle.std.specs.Prelude.{All, IfErr, IfOk, IfSome, IsSome, is_some, length, map, drop, not, option_map};
+ghost use Rattle.std.specs.Prelude.{◌+◌, ◌&&◌};
 ghost use Rattle.std.specs.Int.{w64, from_le_bytes};
 ghost use Rattle.std.specs.List.{flat_map};
 ghost use Rattle.zarrs_data_type.specs.ArrayData.{fixed};
 ghost use Rattle.zarrs_data_type.specs.Cells.{cells, HasCells};
 ghost use Rattle.zarrs_subset.specs.Regions.{LiesInBox, box_from, box_of, IsLong};
 ghost use Rattle.zarrs_subset.specs.Boxes.{position_count};
-ghost use Rattle.zarrs_subset.specs.Pieces.{pieces};
+ghost use Rattle.zarrs_subset.specs.Pieces.{piece_at, pieces};
 ghost use Rattle.zarrs_data_type.specs.Cell.{fill_cell, fill_of};
 ghost use Rattle.zarrs_data_type.specs.Kind.{kind};
 ghost use Rattle.zarrs_codec_shard.specs.Blocks.{AddsCells};
@@ -70,7 +71,7 @@ pub fn read_index(
 ///
 /// # Errors
 /// `AllocError`: out of memory.
-pub fn read_entries(
+fn read_entries(
     alloc: Global,
     index: &[u8],
     count: usize,
@@ -95,6 +96,39 @@ pub fn read_entries(
         }
     }
     Ok(Some(ranges))
+}
+
+/// Whether each of so many entries of an index names a range from `start` to `end`, or is that of an absent subchunk.
+pub fn are_entries(index: &[u8], count: usize, start: usize, end: usize) -> bool
+    requires { length index.now ≡ count * 16 }
+    ensures { (shard : List ℕ) → result
+        ≡ is_some (all_present (map (named_part shard start end) (pieces 16 count index.now))) }
+{
+    for number in 0..count {
+        let entry = &index[number * ENTRY_LEN..number * ENTRY_LEN + ENTRY_LEN];
+        let Some(_) = entry_range(entry, start, end) else {
+            return false;
+        };
+    }
+    true
+}
+
+/// The range of the subchunk of this number, if its entry in an index names one from `start` to `end`: `Some(None)` for an
+/// absent subchunk.
+pub fn range_at(
+    index: &[u8],
+    number: usize,
+    start: usize,
+    end: usize,
+) -> Option<Option<SubchunkRange>>
+    requires { number * 16 + 16 ≤ length index.now }
+    ensures part { (shard : List ℕ) → named_part shard start end (piece_at 16 index.now number)
+        ≡ option_map (range_part shard) result }
+    ensures within { IfSome result (IsRangeWithin end) }
+    ensures entry { IfSome result (λ range. piece_at 16 index.now number ≡ range_entry range) }
+{
+    let entry = &index[number * ENTRY_LEN..number * ENTRY_LEN + ENTRY_LEN];
+    entry_range(entry, start, end)
 }
 
 /// The range that an entry names, if it lies from `start` to `end`: `Some(None)` for an absent subchunk.

@@ -154,6 +154,13 @@ impl Subchunks {
         Ok(Some(part))
     }
 
+    /// The shape of the chunk.
+    pub fn chunk_shape(&self) -> &[u64]
+        ensures { result.now ≡ chunk_shape self.now }
+    {
+        self.chunk_box.shape()
+    }
+
     /// The extents of each subchunk.
     pub fn shape(&self) -> &[u64]
         ensures { result.now ≡ subchunk_shape self.now }

@@ -26,7 +26,7 @@ returns-then-not-takes-clause-refused g c =
 pub returns-then-not-is_length_of-clause-refused : goal.returns-then-not-is_length_of-clause-refused
 returns-then-not-is_length_of-clause-refused g c =
     let is : element_size (kind c.args.data_type.now) ≡ Some c.in-Some.size = search rules in
-    let len = window_len c.args.window (g.B.ByteSource.bytes c.args.source.now) c.requires.window in
+    let len = window_len c.args.stored.now.window (g.B.ByteSource.bytes c.args.stored.now.source.now) c.args.stored.now.within in
     wrong_length (endian_of c.args.codec.now) (kind c.args.data_type.now) c.in-Some.size (position_count c.args.shape.now) _ is
     (λ same. let yes = c.is_length_of.ensures.1 (sym len ∙ same) in false≢true (sym c.if-not-is_length_of.true ∙ yes))
 
@@ -49,9 +49,9 @@ read_box-requires-clause-part g c = part_fits (box_of c.args.part.now) c.args.sh
 pub read_box-requires-clause-may_read : goal.read_box-requires-clause-may_read
 read_box-requires-clause-may_read g c =
     let is : element_size (kind c.args.data_type.now) ≡ Some c.in-Some.size = search rules in
-    let source = g.B.ByteSource.bytes c.args.source.now in
-    let len = window_len c.args.window source c.requires.window ∙ c.is_length_of.ensures.0 c.if-not-is_length_of.false in
-    may_read_part (g.B.ByteSource.may_read c.args.source.now) c.args.window (kind c.args.data_type.now) c.in-Some.size c.args.shape.now (box_of c.args.part.now) (window_bytes c.args.window source) is
+    let source = g.B.ByteSource.bytes c.args.stored.now.source.now in
+    let len = window_len c.args.stored.now.window source c.args.stored.now.within ∙ c.is_length_of.ensures.0 c.if-not-is_length_of.false in
+    may_read_part (g.B.ByteSource.may_read c.args.stored.now.source.now) c.args.stored.now.window (kind c.args.data_type.now) c.in-Some.size c.args.shape.now (box_of c.args.part.now) (window_bytes c.args.stored.now.window source) is
     (part_fits (box_of c.args.part.now) c.args.shape.now c.args.part.now.same_length c.requires.part) len c.requires.may_read
 
 pub unreachable-requires-in_default-num_elements : goal.unreachable-requires-in_default-num_elements
@@ -68,31 +68,31 @@ returns-in_err-decode_owned-clause-refused g c =
     let e = endian_of c.args.codec.now in
     let shape = c.args.shape.now in
     let part = box_of c.args.part.now in
-    let source = g.B.ByteSource.bytes c.args.source.now in
-    let refuses = g.B.ByteSource.refuses c.args.source.now in
+    let source = g.B.ByteSource.bytes c.args.stored.now.source.now in
+    let refuses = g.B.ByteSource.refuses c.args.stored.now.source.now in
     let got = c.in_ok-encoded.encoded.items in
     let is : element_size k ≡ Some c.in-Some.size = search rules in
     let count : c.in-Ok.count ≡ position_count part.shape = c.in-Ok.ensures.ok in
-    let dec = (bytes_meaning_of e).decoded k (position_count shape) (window_bytes c.args.window source) in
+    let dec = (bytes_meaning_of e).decoded k (position_count shape) (window_bytes c.args.stored.now.window source) in
     err_kept c.from_residual-in_err-decode_owned.result (part_error.Codec c.in_err-decode_owned.field-0.0) (RefusesPartDecoding dec ⊥ refuses) c.from_residual-in_err-decode_owned.ensures.1
     (refused_decoding dec refuses (bytes_meaning_of e) k c.in-Ok.count got c.in_err-decode_owned.field-0.0 c.in_err-decode_owned.ensures.refused
-    (λ none. part_refused e k c.in-Some.size shape part c.args.window source got is c.args.part.now.same_length c.requires.part c.requires.window
+    (λ none. part_refused e k c.in-Some.size shape part c.args.stored.now.window source got is c.args.part.now.same_length c.requires.part c.args.stored.now.within
     (c.is_length_of.ensures.0 c.if-not-is_length_of.false) c.in_ok-encoded.ensures.bytes (sym c.takes.ensures ∙ c.if-not-takes.false)
     (ap (λ n. (bytes_meaning_of e).decoded k n got) (sym count) ∙ none)))
 
 pub returns-clause-part : goal.returns-clause-part
 returns-clause-part g c =
     let is : element_size (kind c.args.data_type.now) ≡ Some c.in-Some.size = search rules in
-    let source = g.B.ByteSource.bytes c.args.source.now in
+    let source = g.B.ByteSource.bytes c.args.stored.now.source.now in
     let count : c.in-Ok.count ≡ position_count (box_of c.args.part.now).shape = c.in-Ok.ensures.ok in
-    read_part (endian_of c.args.codec.now) (kind c.args.data_type.now) c.in-Some.size c.args.shape.now (box_of c.args.part.now) c.args.window source c.in_ok-encoded.encoded.items (data_of c.in_ok-decode_owned.field-0)
-    is c.args.part.now.same_length c.requires.part c.requires.window (c.is_length_of.ensures.0 c.if-not-is_length_of.false) c.in_ok-encoded.ensures.bytes
+    read_part (endian_of c.args.codec.now) (kind c.args.data_type.now) c.in-Some.size c.args.shape.now (box_of c.args.part.now) c.args.stored.now.window source c.in_ok-encoded.encoded.items (data_of c.in_ok-decode_owned.field-0)
+    is c.args.part.now.same_length c.requires.part c.args.stored.now.within (c.is_length_of.ensures.0 c.if-not-is_length_of.false) c.in_ok-encoded.ensures.bytes
     (c.in_ok-decode_owned.ensures.cells ∙ ap (λ n. (bytes_meaning_of (endian_of c.args.codec.now)).decoded (kind c.args.data_type.now) n c.in_ok-encoded.encoded.items) count) c.in_ok-decode_owned.ensures.some
 
 pub returns-clause-whole : goal.returns-clause-whole
 returns-clause-whole g c = λ all.
-    let source = g.B.ByteSource.bytes c.args.source.now in
+    let source = g.B.ByteSource.bytes c.args.stored.now.source.now in
     let count : c.in-Ok.count ≡ position_count (box_of c.args.part.now).shape = c.in-Ok.ensures.ok in
-    whole_read (endian_of c.args.codec.now) (kind c.args.data_type.now) c.in-Some.size c.args.shape.now (box_of c.args.part.now) c.args.window source c.in_ok-encoded.encoded.items (data_of c.in_ok-decode_owned.field-0)
+    whole_read (endian_of c.args.codec.now) (kind c.args.data_type.now) c.in-Some.size c.args.shape.now (box_of c.args.part.now) c.args.stored.now.window source c.in_ok-encoded.encoded.items (data_of c.in_ok-decode_owned.field-0)
     all c.args.part.now.same_length c.requires.part (c.is_length_of.ensures.0 c.if-not-is_length_of.false) c.in_ok-encoded.ensures.bytes
     (c.in_ok-decode_owned.ensures.cells ∙ ap (λ n. (bytes_meaning_of (endian_of c.args.codec.now)).decoded (kind c.args.data_type.now) n c.in_ok-encoded.encoded.items) count)

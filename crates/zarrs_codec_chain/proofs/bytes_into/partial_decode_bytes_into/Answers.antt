@@ -22,20 +22,20 @@ pub put_part-requires-clause-array_len : goal.put_part-requires-clause-array_len
 put_part-requires-clause-array_len g c =
     let t = c.args.target.now in
     let part = c.args.part.now in
-    let source = g.B.ByteSource.bytes c.args.source.now in
-    let got : c.window_of-array.result.now ≡ window_bytes c.args.window source = c.window_of-array.ensures ∙ ap (window_bytes c.args.window) c.in-Some.ensures.lends.all in
-    cells_len (endian_of c.args.codec.now) (kind c.args.data_type.now) c.args.shape.now (box_of part) (target_box t) t.parent_shape.now c.args.window source c.window_of-array.result.now t.cell_size t.depth t.bytes.now t.bytes.now
-    (c.are_cells.ensures c.if-are_cells.true) c.requires.takes part.same_length t.region.now.same_length c.requires.same_shape c.requires.part c.args.target.now.whole.inside c.requires.window got
+    let source = g.B.ByteSource.bytes c.args.stored.now.source.now in
+    let got : c.in-Some.array.now ≡ window_bytes c.args.stored.now.window source = c.in-Some.ensures in
+    cells_len (endian_of c.args.codec.now) (kind c.args.data_type.now) c.args.shape.now (box_of part) (target_box t) t.parent_shape.now c.args.stored.now.window source c.in-Some.array.now t.cell_size t.depth t.bytes.now t.bytes.now
+    (c.are_cells.ensures c.if-are_cells.true) c.requires.takes part.same_length t.region.now.same_length c.requires.same_shape c.requires.part c.args.target.now.whole.inside c.args.stored.now.within got
 
 pub returns-then-are_cells-clause-cells : goal.returns-then-are_cells-clause-cells
 returns-then-are_cells-clause-cells g c =
     let t = c.args.target.now in
     let u = c.put_part.new.target in
     let part = c.args.part.now in
-    let source = g.B.ByteSource.bytes c.args.source.now in
-    let got : c.window_of-array.result.now ≡ window_bytes c.args.window source = c.window_of-array.ensures ∙ ap (window_bytes c.args.window) c.in-Some.ensures.lends.all in
-    put_into (endian_of c.args.codec.now) (kind c.args.data_type.now) c.args.shape.now (box_of part) (target_box t) t.parent_shape.now c.args.window source c.window_of-array.result.now t.cell_size t.depth t.bytes.now u.bytes.now
-    (c.are_cells.ensures c.if-are_cells.true) c.requires.takes part.same_length t.region.now.same_length c.requires.same_shape c.requires.part c.args.target.now.whole.inside c.requires.window got
+    let source = g.B.ByteSource.bytes c.args.stored.now.source.now in
+    let got : c.in-Some.array.now ≡ window_bytes c.args.stored.now.window source = c.in-Some.ensures in
+    put_into (endian_of c.args.codec.now) (kind c.args.data_type.now) c.args.shape.now (box_of part) (target_box t) t.parent_shape.now c.args.stored.now.window source c.in-Some.array.now t.cell_size t.depth t.bytes.now u.bytes.now
+    (c.are_cells.ensures c.if-are_cells.true) c.requires.takes part.same_length t.region.now.same_length c.requires.same_shape c.requires.part c.args.target.now.whole.inside c.args.stored.now.within got
     c.put_part.ensures.put u.depth c.put_part.ensures.same.depth (position_count t.parent_shape.now) (position_count u.parent_shape.now) t.masks.now u.masks.now
 
 pub returns-then-are_cells-clause-kept : goal.returns-then-are_cells-clause-kept
@@ -43,12 +43,12 @@ returns-then-are_cells-clause-kept g c =
     let t = c.args.target.now in
     let u = c.put_part.new.target in
     let part = c.args.part.now in
-    let source = g.B.ByteSource.bytes c.args.source.now in
-    let got : c.window_of-array.result.now ≡ window_bytes c.args.window source = c.window_of-array.ensures ∙ ap (window_bytes c.args.window) c.in-Some.ensures.lends.all in
+    let source = g.B.ByteSource.bytes c.args.stored.now.source.now in
+    let got : c.in-Some.array.now ≡ window_bytes c.args.stored.now.window source = c.in-Some.ensures in
     record {
       same = c.put_part.ensures.same;
-      outside = put_outside (endian_of c.args.codec.now) (kind c.args.data_type.now) c.args.shape.now (box_of part) (target_box t) t.parent_shape.now c.args.window source c.window_of-array.result.now t.cell_size t.depth t.bytes.now u.bytes.now
-          (c.are_cells.ensures c.if-are_cells.true) c.requires.takes part.same_length t.region.now.same_length c.requires.same_shape c.requires.part c.args.target.now.whole.inside c.requires.window got
+      outside = put_outside (endian_of c.args.codec.now) (kind c.args.data_type.now) c.args.shape.now (box_of part) (target_box t) t.parent_shape.now c.args.stored.now.window source c.in-Some.array.now t.cell_size t.depth t.bytes.now u.bytes.now
+          (c.are_cells.ensures c.if-are_cells.true) c.requires.takes part.same_length t.region.now.same_length c.requires.same_shape c.requires.part c.args.target.now.whole.inside c.args.stored.now.within got
           c.put_part.ensures.put u.depth c.put_part.ensures.same.depth (position_count t.parent_shape.now) (position_count u.parent_shape.now) t.masks.now u.masks.now;
     }
 
@@ -73,7 +73,7 @@ returns-clause-cells g c =
     let s = c.args.shape.now in
     let own = target_box t in
     let part = box_of c.args.part.now in
-    let b = window_bytes c.args.window (g.B.ByteSource.bytes c.args.source.now) in
+    let b = window_bytes c.args.stored.now.window (g.B.ByteSource.bytes c.args.stored.now.source.now) in
     let made = data_of c.in_ok-cells.cells in
     let d = c.in_ok-cells.ensures.part in
     let same : position_count part.shape ≡ position_count own.shape = ap position_count (sym c.requires.same_shape) in
@@ -86,9 +86,9 @@ returns-then-are_cells-clause-whole g c = λ all.
     let k = kind c.args.data_type.now in
     let e = endian_of c.args.codec.now in
     let n = position_count c.args.shape.now in
-    let source = g.B.ByteSource.bytes c.args.source.now in
-    cells_decode e k n (window_bytes c.args.window source)
-    (subst (λ l. AreCells e k n l) (sym (window_len c.args.window source c.requires.window)) (c.are_cells.ensures c.if-are_cells.true))
+    let source = g.B.ByteSource.bytes c.args.stored.now.source.now in
+    cells_decode e k n (window_bytes c.args.stored.now.window source)
+    (subst (λ l. AreCells e k n l) (sym (window_len c.args.stored.now.window source c.args.stored.now.within)) (c.are_cells.ensures c.if-are_cells.true))
 
 pub returns-clause-whole : goal.returns-clause-whole
 returns-clause-whole g c = λ all.

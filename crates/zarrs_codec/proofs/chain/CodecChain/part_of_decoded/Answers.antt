@@ -1,9 +1,10 @@
 use Rattle.zarrs_data_type.specs.CellTypes.{chunk_fill, chunk_kind}
-use Rattle.std.proofs.Common.{◌≡◌, ◌∙◌, Option, List, ℕ, ap, subst}
+use Rattle.std.proofs.Common.{◌≡◌, ◌∙◌, Option, List, ℕ, ap, length, subst}
+use Rattle.std.proofs.lemmas.Bool.{lt-ltb}
 use Rattle.zarrs_data_type.specs.ArrayData.{data_of}
 use Rattle.zarrs_data_type.specs.Cell.{Cell}
 use Rattle.zarrs_data_type.specs.Cells.{cells}
-use Rattle.zarrs_codec_leaf.specs.Sources.{window_bytes}
+use Rattle.zarrs_codec_chain.specs.Stored.{bytes_of, refuses_of}
 use Rattle.zarrs_subset.specs.Regions.{box_of}
 use Rattle.zarrs_codec_chain.specs.Parts.{DecodesPart}
 use Rattle.zarrs_codec_chain.specs.PartRefusals.{RefusesPartDecoding}
@@ -14,12 +15,12 @@ use Rattle.zarrs_codec_chain.specs.Refusals.{IsTooLargeToDecode}
 use Rattle.zarrs_codec.specs.ChainLaws.{chain-lawful}
 use Rattle.zarrs_codec.specs.Chains.{chain_meaning}
 use Rattle.zarrs_codec.proofs.Behind.{decoded-has_cells}
-use Rattle.zarrs_codec.proofs.PartReads.{cells_large, chunk_refused, whole_read}
+use Rattle.zarrs_codec.proofs.PartReads.{cells_large, chunk_refused}
 use Rattle.zarrs_codec.proofs.chain.CodecChain.part_of_decoded.Goals as goal
 
-pub read-requires-clause-may_read : goal.read-requires-clause-may_read
-read-requires-clause-may_read g c =
-    whole_read (g.B.ByteSource.may_read c.args.source.now) c.args.window (g.B.ByteSource.bytes c.args.source.now) (chunk_kind c.args.chunk.now) c.args.chunk.now.shape.now (box_of c.args.part.now) c.requires.window c.requires.may_read
+pub read-requires : goal.read-requires
+read-requires g c =
+    λ place below. c.requires.may_read place (lt-ltb place (length (bytes_of c.args.stored.now)) below)
 
 pub returns-in_err-whole-clause-refused : goal.returns-in_err-whole-clause-refused
 returns-in_err-whole-clause-refused g c =
@@ -27,9 +28,9 @@ returns-in_err-whole-clause-refused g c =
     let f = chunk_fill c.args.chunk.now in
     let s = c.args.chunk.now.shape.now in
     let m : ChainMeaning = chain_meaning c.args.self.now in
-    let b = window_bytes c.args.window (g.B.ByteSource.bytes c.args.source.now) in
+    let b = bytes_of c.args.stored.now in
     let part = box_of c.args.part.now in
-    let refuses = g.B.ByteSource.refuses c.args.source.now in
+    let refuses = refuses_of c.args.stored.now in
     let e = c.in_err-whole.field-0.0 in
     let read : c.as_slice.result.now ≡ b = c.as_slice.ensures ∙ c.in_ok-encoded.ensures.bytes in
     err_kept c.from_residual-in_err-whole.result (part_error.Codec e) (RefusesPartDecoding (m.decoded k f s b) (IsTooLargeToDecode m k f s part b) refuses) c.from_residual-in_err-whole.ensures.1
@@ -42,7 +43,7 @@ returns-then-not-is_counted-clause-refused g c =
     let f = chunk_fill c.args.chunk.now in
     let s = c.args.chunk.now.shape.now in
     let m : ChainMeaning = chain_meaning c.args.self.now in
-    let b = window_bytes c.args.window (g.B.ByteSource.bytes c.args.source.now) in
+    let b = bytes_of c.args.stored.now in
     c.requires.whole k f s (box_of c.args.part.now) b ∙ cells_large (m.leaves_out s b) k f s c.if-not-is_counted.ensures.large
 
 pub part_of_whole-requires-clause-held : goal.part_of_whole-requires-clause-held
@@ -57,7 +58,7 @@ returns-clause-cells g c =
     let f = chunk_fill c.args.chunk.now in
     let s = c.args.chunk.now.shape.now in
     let m : ChainMeaning = chain_meaning c.args.self.now in
-    let b = window_bytes c.args.window (g.B.ByteSource.bytes c.args.source.now) in
+    let b = bytes_of c.args.stored.now in
     let read : c.as_slice.result.now ≡ b = c.as_slice.ensures ∙ c.in_ok-encoded.ensures.bytes in
     let is : cells k (data_of c.in_ok-whole.whole) ≡ m.decoded k f s b = c.in_ok-whole.ensures.cells ∙ ap (m.decoded k f s) read in
     subst (λ (o : Option (List Cell)). DecodesPart k s (box_of c.args.part.now) o (data_of c.in_ok-made.made)) is c.in_ok-made.ensures

@@ -3,7 +3,7 @@ use Rattle.std.proofs.Common.{◌≡◌, ◌∙◌, true, ap, sym, subst}
 use Rattle.zarrs_data_type.specs.ArrayData.{data_of}
 use Rattle.zarrs_data_type.specs.Cells.{fits}
 use Rattle.zarrs_data_type_bytes.proofs.Cells.{cells-parts}
-use Rattle.zarrs_codec_leaf.specs.Sources.{window_bytes}
+use Rattle.zarrs_codec_chain.specs.Stored.{bytes_of, refuses_of}
 use Rattle.zarrs_subset.specs.Boxes.{position_count}
 use Rattle.zarrs_subset.specs.Regions.{box_of}
 use Rattle.zarrs_data_type.specs.States.{data_of_target, target_box}
@@ -31,7 +31,7 @@ returns-clause-cells g c =
     let s = c.args.chunk.now.shape.now in
     let own = target_box t in
     let part = box_of c.args.part.now in
-    let b = window_bytes c.args.window (g.B.ByteSource.bytes c.args.source.now) in
+    let b = bytes_of c.args.stored.now in
     let made = data_of c.in_ok-cells.cells in
     let d = c.in_ok-cells.ensures.cells in
     let same : position_count part.shape ≡ position_count own.shape = ap position_count (sym c.requires.same_shape) in
