@@ -146,7 +146,7 @@ impl ShardingCodec {
         if met.shape().iter().all(|count| *count == 1) {
             let found = self.decode_piece(alloc, read, cell_type, met.start())?;
             if let Some(piece) = found {
-                if piece.shared == *read.part() {
+                if piece.shared == *read.part {
                     return Ok(piece.cells);
                 }
             }
@@ -172,7 +172,7 @@ impl ShardingCodec {
         ensures refused { IfErr result (RefusesSubchunks self.now cell_type.now
             (read_of read.now)) }
     {
-        let Ok(count) = read.part().num_elements() else {
+        let Ok(count) = read.part.num_elements() else {
             unreachable!()
         };
         let held = RegionCells::new_fill_value(
@@ -218,7 +218,7 @@ impl ShardingCodec {
         };
         let Piece { shared, cells } = piece;
         let data_type = &cell_type.data_type;
-        let made = held.with_owned_part(alloc, data_type, read.part(), cells, &shared)?;
+        let made = held.with_owned_part(alloc, data_type, read.part, cells, &shared)?;
         Ok(made)
     }
 

@@ -236,7 +236,7 @@ impl ShardingCodec {
         let Some(share) = read.share(alloc, number)? else {
             return Ok(());
         };
-        let own = moved_to(alloc, &share.shared, read.part(), target.region)?;
+        let own = moved_to(alloc, &share.shared, read.part, target.region)?;
         let inner = ChunkType {
             cell_type,
             shape: read.subchunk_shape(),

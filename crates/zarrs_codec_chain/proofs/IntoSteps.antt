@@ -62,6 +62,19 @@ shifted_place (s ∷ S) (o ∷ O) (i ∷ p) same long =
     let first : o + i - (s + o) ≡ i - s = omega arith in
     ap (λ x. x ∷ offset_from (zip_with (λ a b. a + b) S O) (offset_by O p)) first ∙ ap (λ l. (i - s) ∷ l) (shifted_place S O p (omega arith) (omega arith))
 
+-- where the box of a subchunk ends, in a region whose ends fit
+module _ (region : Box) (sub : List ℕ) (cut : is_cut_by region.shape sub ≡ true) (long : IsLong region) (j : ℕ) (lt : j < subchunk_count region.shape sub) where
+  at_grid : InShape (quotients region.shape sub) (unravel (quotients region.shape sub) j)
+  at_grid = unravel_in (quotients region.shape sub) j lt
+
+  pub region_start : length region.start ≡ length (subchunk_box region.shape sub j).start
+  region_start = long ∙ sym (corner_long region.shape sub (unravel (quotients region.shape sub) j) cut at_grid)
+
+  pub region_ends : (k : ℕ) → k < length region.start → slice_index region.start k + slice_index region.shape k < 2 ^ 64
+      → slice_index (subchunk_box region.shape sub j).start k + slice_index (subchunk_box region.shape sub j).shape k + slice_index region.start k < 2 ^ 64
+  region_ends k below end =
+      omega (arith, (lies_shape (subchunk_box region.shape sub j) region.shape (lies_in_chunk region.shape sub (unravel (quotients region.shape sub) j) cut at_grid)).ends k (omega (arith, long)), end)
+
 module _ (parent : List ℕ) (region : Box) (sub : List ℕ) (cut : is_cut_by region.shape sub ≡ true) (long : IsLong region) (lies : LiesInShape region parent) where
   abbrev s : List ℕ
   s = region.shape
@@ -107,11 +120,6 @@ module _ (parent : List ℕ) (region : Box) (sub : List ℕ) (cut : is_cut_by re
         starts = λ k below. omega (arith, at k below);
         ends = λ k below. omega (arith, at k below, in_s.ends k (omega (arith, long)));
       }
-
-  -- where it ends
-  pub own_ends : (j : ℕ) → j < subchunk_count s sub → (k : ℕ) → k < length region.start → slice_index region.start k + slice_index region.shape k < 2 ^ 64
-      → slice_index (subchunk_box s sub j).start k + slice_index (subchunk_box s sub j).shape k + slice_index region.start k < 2 ^ 64
-  own_ends j lt k below end = omega (arith, (box_lies j lt).ends k (omega (arith, long)), end)
 
   own_in : (j : ℕ) → j < subchunk_count s sub → (p : List ℕ) → Holds (own_box region sub j) p → Holds region p
   own_in j lt p holds = part_in_chunk region (subchunk_box s sub j) p long (box_long j lt) (box_lies j lt) holds

@@ -23,6 +23,7 @@ pub record IsIndexAt (at_start : Bool) (count first last start end : ℕ) (encod
   pub within : last ≤ length encoded
   pub index_is : slice_range encoded first last ≡ index_in at_start count encoded
   pub index_len : length (index_in at_start count encoded) ≡ count * 16
+  pub width : first + length (slice_range encoded first last) ≡ last
   pub start_is : start ≡ data_start at_start count
   pub end_is : end ≡ data_end at_start count (length encoded)
   pub places : (x : ℕ) → first ≤ x → x < last → is_index_place at_start count (length encoded) x ≡ true
@@ -37,6 +38,7 @@ index_at true count len first last start end encoded len_is long first_is last_i
       within = omega arith;
       index_is = ap (λ n. take n (drop first encoded)) width ∙ ap (λ n. take (count * 16) (drop n encoded)) first_is;
       index_len = length-take-le (count * 16) encoded (omega arith);
+      width = omega (arith, length-take-le (last - first) (drop first encoded) (omega (arith, length-drop first encoded)));
       start_is = start_is;
       end_is = end_is ∙ sym len_is;
       places = λ x from to. lt-ltb x (count * 16) (omega arith);
@@ -51,10 +53,15 @@ index_at false count len first last start end encoded len_is long first_is last_
       within = omega arith;
       index_is = ap (λ n. take n (drop first encoded)) width ∙ ap (λ n. take (length (drop front encoded)) (drop n encoded)) at ∙ take_all (length (drop front encoded)) (drop front encoded) (omega arith);
       index_len = width_is;
+      width = omega (arith, length-take-le (last - first) (drop first encoded) (omega (arith, length-drop first encoded)));
       start_is = start_is;
       end_is = (let same : end ≡ front = omega arith in same);
       places = λ x from to. le-leb front x (omega arith);
     }
+
+pub length-index_in : (at_start : Bool) (count : ℕ) (encoded : List ℕ) → count * 16 ≤ length encoded → length (index_in at_start count encoded) ≡ count * 16
+length-index_in true count encoded long = length-take-le (count * 16) encoded long
+length-index_in false count encoded long = omega (arith, length-drop (length encoded - count * 16) encoded)
 
 -- the part needs its places
 pub index_needed : (r : ShardRead) (x : ℕ) → x < length r.encoded → is_index_place r.at_start (count_of r) (length r.encoded) x ≡ true → part_places r x ≡ true

@@ -61,7 +61,14 @@ pub fn partial_decode_bytes<B: ByteSource>(
     let Ok(count) = part.num_elements() else {
         unreachable!()
     };
-    let encoded = read_box(alloc, stored.source, stored.window, shape, part, size as u64)?;
+    let encoded = read_box(
+        alloc,
+        stored.source,
+        stored.window,
+        shape,
+        part,
+        size as u64,
+    )?;
     Ok(codec.decode_owned(alloc, encoded, data_type, count)?)
 }
 

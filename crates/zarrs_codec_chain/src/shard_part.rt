@@ -23,7 +23,8 @@ pub struct ShardPart<'s, B: ByteSource> {
     stored: Stored<'s, B>,
     at_start: bool,
     subchunks: Subchunks,
-    part: &'s ArraySubset,
+    /// The part.
+    pub part: &'s ArraySubset,
     index: SourceBytes<'s>,
     // Where the data part begins and ends.
     start: usize,
@@ -111,13 +112,6 @@ impl<'s, B: ByteSource> ShardPart<'s, B> {
         }))
     }
 
-    /// The part.
-    pub fn part(&self) -> &ArraySubset
-        ensures { box_of result.now ≡ (read_of self.now).part }
-    {
-        self.part
-    }
-
     /// The shape of each subchunk.
     pub fn subchunk_shape(&self) -> &[u64]
         ensures { result.now ≡ (read_of self.now).sub }
@@ -129,7 +123,10 @@ impl<'s, B: ByteSource> ShardPart<'s, B> {
     pub fn count(&self) -> u64
         ensures { result ≡ count_of (read_of self.now) }
     {
-        self.subchunks.count().unwrap()
+        let Some(count) = self.subchunks.count() else {
+            unreachable!()
+        };
+        count
     }
 
     /// The indices of the subchunks that the part meets, as a box.
@@ -153,7 +150,8 @@ impl<'s, B: ByteSource> ShardPart<'s, B> {
         ensures none { IfNone result (HasNone (read_of self.now) indices.now) }
         ensures number { IfSome result (IsAt (read_of self.now) indices.now) }
     {
-        ravel_indices(indices, self.subchunks.grid())
+        let number = ravel_indices(indices, self.subchunks.grid())?;
+        Some(number)
     }
 
     /// The bytes of the subchunk of this number, or `None` if it is absent.

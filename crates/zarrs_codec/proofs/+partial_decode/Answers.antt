@@ -45,6 +45,19 @@ sharding::ShardingCodec::decode_piece-returns-in_default-clause-none g t c =
     let dec = m.decoded k f r.sub in
     λ held. skip_none r is k dec f c.args.indices.now held c.in_default.ensures.none
 
+pub sharding::ShardingCodec::decode_piece-returns-in_default-subchunk-clause-none : goal.sharding::ShardingCodec::decode_piece-returns-in_default-subchunk-clause-none
+sharding::ShardingCodec::decode_piece-returns-in_default-subchunk-clause-none g t c =
+    let k = kind_of c.args.cell_type.now in
+    let f = filling c.args.cell_type.now in
+    let r = read_of c.args.read.now in
+    let is = opened c.args.read.now in
+    let m : ChainMeaning = chain_meaning (inner_chain_of c.args.self.now) in
+    let dec = m.decoded k f r.sub in
+    let i = c.args.indices.now in
+    let n = c.in-Some.number in
+    let at = c.in-Some.ensures.number in
+    λ held. skip_absent r is k dec f i held n at (c.in_default-subchunk.ensures.bytes)
+
 pub sharding::ShardingCodec::decode_piece-returns-in_default-2-clause-none : goal.sharding::ShardingCodec::decode_piece-returns-in_default-2-clause-none
 sharding::ShardingCodec::decode_piece-returns-in_default-2-clause-none g t c =
     let k = kind_of c.args.cell_type.now in
@@ -56,20 +69,7 @@ sharding::ShardingCodec::decode_piece-returns-in_default-2-clause-none g t c =
     let i = c.args.indices.now in
     let n = c.in-Some.number in
     let at = c.in-Some.ensures.number in
-    λ held. skip_absent r is k dec f i held n at (c.in_default-2.ensures.bytes)
-
-pub sharding::ShardingCodec::decode_piece-returns-in_default-3-clause-none : goal.sharding::ShardingCodec::decode_piece-returns-in_default-3-clause-none
-sharding::ShardingCodec::decode_piece-returns-in_default-3-clause-none g t c =
-    let k = kind_of c.args.cell_type.now in
-    let f = filling c.args.cell_type.now in
-    let r = read_of c.args.read.now in
-    let is = opened c.args.read.now in
-    let m : ChainMeaning = chain_meaning (inner_chain_of c.args.self.now) in
-    let dec = m.decoded k f r.sub in
-    let i = c.args.indices.now in
-    let n = c.in-Some.number in
-    let at = c.in-Some.ensures.number in
-    λ held. skip_none r is k dec f i held ((rw c.in_default-3.is at c.in_ok-share.ensures.none) i at)
+    λ held. skip_none r is k dec f i held ((rw c.in_default-2.is at c.in_ok-share.ensures.none) i at)
 
 pub sharding::ShardingCodec::decode_piece-subchunk-requires : goal.sharding::ShardingCodec::decode_piece-subchunk-requires
 sharding::ShardingCodec::decode_piece-subchunk-requires g t c =
@@ -96,14 +96,14 @@ sharding::ShardingCodec::decode_piece-returns-in_err-cells-clause-refused g t c 
     let i = c.args.indices.now in
     let n = c.in-Some.number in
     let at = c.in-Some.ensures.number in
-    let share = (rw c.in-Some-3.is at c.in_ok-share.ensures.share) i at in
-    let shared = box_of c.in-Some-3.share.shared in
-    let own = box_of c.in-Some-3.share.own in
+    let share = (rw c.in-Some-2.is at c.in_ok-share.ensures.share) i at in
+    let shared = box_of c.in-Some-2.share.shared in
+    let own = box_of c.in-Some-2.share.own in
     let shape_is : c.subchunk_shape.result.now ≡ r.sub = c.subchunk_shape.ensures in
-    let stored = c.in-Some-2.stored in
+    let stored = c.in-Some-subchunk.stored in
     let e = c.in_err-cells.field-0.0 in
     err_kept c.from_residual-in_err-cells.result e (RefusesSubchunks c.args.self.now c.args.cell_type.now r) c.from_residual-in_err-cells.ensures.1
-    (own_refused c.args.self.now c.args.cell_type.now r is n at.below stored own e c.in-Some-2.ensures.bytes c.in-Some-2.ensures.refuses
+    (own_refused c.args.self.now c.args.cell_type.now r is n at.below stored own e c.in-Some-subchunk.ensures.bytes c.in-Some-subchunk.ensures.refuses
     (large_share c.args.self.now c.args.cell_type.now r is i n shared own share)
     (subst (λ (x : List ℕ). RefusesPartDecoding (m.decoded k f x (bytes_of stored)) (IsTooLargeToDecode m k f x own (bytes_of stored)) (refuses_of stored) e) shape_is c.in_err-cells.ensures.refused))
 
@@ -118,13 +118,13 @@ sharding::ShardingCodec::decode_piece-returns-clause-piece g t c =
     let i = c.args.indices.now in
     let n = c.in-Some.number in
     let at = c.in-Some.ensures.number in
-    let share = (rw c.in-Some-3.is at c.in_ok-share.ensures.share) i at in
-    let shared = box_of c.in-Some-3.share.shared in
-    let own = box_of c.in-Some-3.share.own in
+    let share = (rw c.in-Some-2.is at c.in_ok-share.ensures.share) i at in
+    let shared = box_of c.in-Some-2.share.shared in
+    let own = box_of c.in-Some-2.share.own in
     let shape_is : c.subchunk_shape.result.now ≡ r.sub = c.subchunk_shape.ensures in
-    let stored = c.in-Some-2.stored in
+    let stored = c.in-Some-subchunk.stored in
     let made = data_of c.in_ok-cells.cells in
-    piece_of_share c.args.self.now c.args.cell_type.now r is i n (bytes_of stored) shared own made at share c.in-Some-3.share.shared.same_length c.in-Some-2.ensures.bytes
+    piece_of_share c.args.self.now c.args.cell_type.now r is i n (bytes_of stored) shared own made at share c.in-Some-2.share.shared.same_length c.in-Some-subchunk.ensures.bytes
     (subst (λ (x : List ℕ). DecodesPart k x own (m.decoded k f x (bytes_of stored)) made) shape_is c.in_ok-cells.ensures.cells)
 
 pub sharding::ShardingCodec::decode_piece-partial_decode_inner-requires : goal.sharding::ShardingCodec::decode_piece-partial_decode_inner-requires
@@ -138,13 +138,13 @@ sharding::ShardingCodec::decode_piece-partial_decode_inner-requires g t c κs wi
     let i = c.args.indices.now in
     let n = c.in-Some.number in
     let at = c.in-Some.ensures.number in
-    let share = (rw c.in-Some-3.is at c.in_ok-share.ensures.share) i at in
-    let shared = box_of c.in-Some-3.share.shared in
-    let own = box_of c.in-Some-3.share.own in
+    let share = (rw c.in-Some-2.is at c.in_ok-share.ensures.share) i at in
+    let shared = box_of c.in-Some-2.share.shared in
+    let own = box_of c.in-Some-2.share.own in
     let shape_is : c.subchunk_shape.result.now ≡ r.sub = c.subchunk_shape.ensures in
-    let small = small_share c.args.self.now c.args.cell_type.now r is i n shared own share c.in-Some-3.share.shared.same_length c.requires in
+    let small = small_share c.args.self.now c.args.cell_type.now r is i n shared own share c.in-Some-2.share.shared.same_length c.requires in
     let lies = subst (LiesInShape own) (sym shape_is) share.own_lies in
-    (first_of (omega (arith, c.decreases), search rules), (search rules, (small, (lies, c.in-Some-2.ensures.may_read share.meets))))
+    (first_of (omega (arith, c.decreases), search rules), (search rules, (small, (lies, c.in-Some-subchunk.ensures.may_read share.meets))))
 
 pub sharding::ShardingCodec::partial_decode_inner-partial_decode_chunk-requires : goal.sharding::ShardingCodec::partial_decode_inner-partial_decode_chunk-requires
 sharding::ShardingCodec::partial_decode_inner-partial_decode_chunk-requires g t c κs within =
@@ -162,7 +162,7 @@ sharding::ShardingCodec::read_subchunk-decode_piece-requires g t c κs within =
 
 pub sharding::ShardingCodec::read_subchunk-with_owned_part-requires-clause-dimensions : goal.sharding::ShardingCodec::read_subchunk-with_owned_part-requires-clause-dimensions
 sharding::ShardingCodec::read_subchunk-with_owned_part-requires-clause-dimensions g t c =
-    let has = rw c.in-Some.is at c.in_ok-decode_piece.ensures.piece in
+    let has = rw c.in-Some.is at c.in_ok-piece.ensures.piece in
     let piece = c.in-Some.piece in
     has.dimensions
 
@@ -174,7 +174,7 @@ sharding::ShardingCodec::read_subchunk-with_owned_part-requires-clause-part g t 
     let is = opened c.args.read.now in
     let m : ChainMeaning = chain_meaning (inner_chain_of c.args.self.now) in
     let dec = m.decoded k f r.sub in
-    let has = rw c.in-Some.is at c.in_ok-decode_piece.ensures.piece in
+    let has = rw c.in-Some.is at c.in_ok-piece.ensures.piece in
     let piece = c.in-Some.piece in
     piece_cells k dec f r.shape r.sub r.part (parts_of r) c.args.indices.now (box_of piece.shared) (data_of piece.cells) has
 
@@ -186,13 +186,13 @@ sharding::ShardingCodec::read_subchunk-returns-clause-read g t c =
     let is = opened c.args.read.now in
     let m : ChainMeaning = chain_meaning (inner_chain_of c.args.self.now) in
     let dec = m.decoded k f r.sub in
-    let has = rw c.in-Some.is at c.in_ok-decode_piece.ensures.piece in
+    let has = rw c.in-Some.is at c.in_ok-piece.ensures.piece in
     let piece = c.in-Some.piece in
     piece_put k dec f r.shape r.sub r.part (parts_of r) c.args.indices.now (box_of piece.shared) (data_of piece.cells) has _ _ c.in_ok-made.ensures
 
 pub sharding::ShardingCodec::read_subchunk-returns-in_default-clause-read : goal.sharding::ShardingCodec::read_subchunk-returns-in_default-clause-read
 sharding::ShardingCodec::read_subchunk-returns-in_default-clause-read g t c =
-    (rw c.in_default.is at c.in_ok-decode_piece.ensures.none) (region_data c.args.held)
+    (rw c.in_default.is at c.in_ok-piece.ensures.none) (region_data c.args.held)
 
 pub sharding::ShardingCodec::read_subchunks-returns-in_default-2-clause-all : goal.sharding::ShardingCodec::read_subchunks-returns-in_default-2-clause-all
 sharding::ShardingCodec::read_subchunks-returns-in_default-2-clause-all g t c =
@@ -387,6 +387,14 @@ sharding::ShardingCodec::partial_decode_shard-returns-in-None-clause-refused g t
     let f = chunk_fill chunk in
     let sub = sizes_of (subchunk_sizes_of x) in
     (subst (λ (l : List ℕ). IsNoShard at (shape_of chunk) l (bytes_of stored)) sub_is (subst (λ (a : Bool). IsNoShard a (shape_of chunk) c.deref.result.now (bytes_of stored)) at_is none)) (subchunk_meaning m false k f sub) k f
+
+pub sharding::ShardingCodec::read_part-decode_piece-requires : goal.sharding::ShardingCodec::read_part-decode_piece-requires
+sharding::ShardingCodec::read_part-decode_piece-requires g t c κs within =
+    (first_of (omega (arith, c.decreases), search rules), (search rules, c.requires))
+
+pub sharding::ShardingCodec::read_part-read_subchunks-requires : goal.sharding::ShardingCodec::read_part-read_subchunks-requires
+sharding::ShardingCodec::read_part-read_subchunks-requires g t c κs within =
+    (first_of (omega (arith, c.decreases), search rules), (search rules, (c.requires, c.in_ok-met.ensures)))
 
 pub chain::CodecChain::partial_decode_chunk-returns-in-Sharding-clause-refused : goal.chain::CodecChain::partial_decode_chunk-returns-in-Sharding-clause-refused
 chain::CodecChain::partial_decode_chunk-returns-in-Sharding-clause-refused g t c =

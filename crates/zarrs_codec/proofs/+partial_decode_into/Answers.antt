@@ -90,11 +90,7 @@ sharding::ShardingCodec::read_subchunk_into-moved_to-requires-clause-lies g t c 
     let n = c.in-Some.number in
     let at = c.in-Some.ensures.number in
     let share = (rw c.in-Some-2.is at c.in_ok-share.ensures.share) i at in
-    subst (λ (b : Box). LiesInBox (box_of c.in-Some-2.share.shared) b) (sym c.part.ensures) share.shared_lies
-
-pub sharding::ShardingCodec::read_subchunk_into-moved_to-requires-clause-shape : goal.sharding::ShardingCodec::read_subchunk_into-moved_to-requires-clause-shape
-sharding::ShardingCodec::read_subchunk_into-moved_to-requires-clause-shape g t c =
-    c.requires.same_shape ∙ ap (λ (b : Box). b.shape) (sym c.part.ensures)
+    share.shared_lies
 
 pub sharding::ShardingCodec::read_subchunk_into-read_piece-requires : goal.sharding::ShardingCodec::read_subchunk_into-read_piece-requires
 sharding::ShardingCodec::read_subchunk_into-read_piece-requires g t c κs within =
@@ -113,11 +109,10 @@ sharding::ShardingCodec::read_subchunk_into-read_piece-requires g t c κs within
     let shared = box_of c.in-Some-2.share.shared in
     let piece = box_of c.in-Some-2.share.own in
     let shape_is : c.subchunk_shape.result.now ≡ r.sub = c.subchunk_shape.ensures in
-    let part_is : box_of c.part.result.now ≡ r.part = c.part.ensures in
     let shared_long = c.in-Some-2.share.shared.same_length in
     let own_long = t.region.now.same_length in
     let own = box_of c.in_ok-own.own in
-    let own_is : own ≡ moved_box region r.part shared = c.in_ok-own.ensures ∙ ap (λ (b : Box). moved_box region b shared) part_is in
+    let own_is : own ≡ moved_box region r.part shared = c.in_ok-own.ensures in
     let stored = c.subchunk-stored.result in
     let bytes_are = c.subchunk-stored.ensures.bytes in
     let new = c.read_piece.new.target in
@@ -143,11 +138,10 @@ sharding::ShardingCodec::read_subchunk_into-returns-clause-kept g t c =
     let shared = box_of c.in-Some-2.share.shared in
     let piece = box_of c.in-Some-2.share.own in
     let shape_is : c.subchunk_shape.result.now ≡ r.sub = c.subchunk_shape.ensures in
-    let part_is : box_of c.part.result.now ≡ r.part = c.part.ensures in
     let shared_long = c.in-Some-2.share.shared.same_length in
     let own_long = t.region.now.same_length in
     let own = box_of c.in_ok-own.own in
-    let own_is : own ≡ moved_box region r.part shared = c.in_ok-own.ensures ∙ ap (λ (b : Box). moved_box region b shared) part_is in
+    let own_is : own ≡ moved_box region r.part shared = c.in_ok-own.ensures in
     let stored = c.subchunk-stored.result in
     let bytes_are = c.subchunk-stored.ensures.bytes in
     let new = c.read_piece.new.target in
@@ -171,11 +165,10 @@ sharding::ShardingCodec::read_subchunk_into-returns-clause-read g t c =
     let shared = box_of c.in-Some-2.share.shared in
     let piece = box_of c.in-Some-2.share.own in
     let shape_is : c.subchunk_shape.result.now ≡ r.sub = c.subchunk_shape.ensures in
-    let part_is : box_of c.part.result.now ≡ r.part = c.part.ensures in
     let shared_long = c.in-Some-2.share.shared.same_length in
     let own_long = t.region.now.same_length in
     let own = box_of c.in_ok-own.own in
-    let own_is : own ≡ moved_box region r.part shared = c.in_ok-own.ensures ∙ ap (λ (b : Box). moved_box region b shared) part_is in
+    let own_is : own ≡ moved_box region r.part shared = c.in_ok-own.ensures in
     let stored = c.subchunk-stored.result in
     let bytes_are = c.subchunk-stored.ensures.bytes in
     let new = c.read_piece.new.target in
@@ -208,11 +201,10 @@ sharding::ShardingCodec::read_subchunk_into-returns-clause-refused g t c =
     let shared = box_of c.in-Some-2.share.shared in
     let piece = box_of c.in-Some-2.share.own in
     let shape_is : c.subchunk_shape.result.now ≡ r.sub = c.subchunk_shape.ensures in
-    let part_is : box_of c.part.result.now ≡ r.part = c.part.ensures in
     let shared_long = c.in-Some-2.share.shared.same_length in
     let own_long = t.region.now.same_length in
     let own = box_of c.in_ok-own.own in
-    let own_is : own ≡ moved_box region r.part shared = c.in_ok-own.ensures ∙ ap (λ (b : Box). moved_box region b shared) part_is in
+    let own_is : own ≡ moved_box region r.part shared = c.in_ok-own.ensures in
     let stored = c.subchunk-stored.result in
     let bytes_are = c.subchunk-stored.ensures.bytes in
     let new = c.read_piece.new.target in
@@ -641,7 +633,7 @@ sharding::ShardingCodec::partial_decode_shard_into-read_all_into-requires g t c 
     let r_of = λ (at : Bool) (sub : List ℕ). shard_read at (shape_of chunk) sub (box_of c.args.part.now) (bytes_of stored) (refuses_of stored) in
     let read = c.in-Some.read in
     let read_is : read_of read ≡ r_of (is_at_start (location_of x)) (sizes_of (subchunk_sizes_of x)) =
-    (rw c.in-Some.is at c.in_ok-open.ensures.opened) ∙ ap (λ (at : Bool). r_of at c.deref.result.now) at_is ∙ ap (r_of (is_at_start (location_of x))) sub_is in
+    (rw c.in-Some.is at c.in_ok-read.ensures.opened) ∙ ap (λ (at : Bool). r_of at c.deref.result.now) at_is ∙ ap (r_of (is_at_start (location_of x))) sub_is in
     let r = read_of read in
     let ty = chunk.cell_type.now in
     let t = c.args.target.now in
@@ -660,7 +652,7 @@ sharding::ShardingCodec::partial_decode_shard_into-read_subchunks_into-requires 
     let r_of = λ (at : Bool) (sub : List ℕ). shard_read at (shape_of chunk) sub (box_of c.args.part.now) (bytes_of stored) (refuses_of stored) in
     let read = c.in-Some.read in
     let read_is : read_of read ≡ r_of (is_at_start (location_of x)) (sizes_of (subchunk_sizes_of x)) =
-    (rw c.in-Some.is at c.in_ok-open.ensures.opened) ∙ ap (λ (at : Bool). r_of at c.deref.result.now) at_is ∙ ap (r_of (is_at_start (location_of x))) sub_is in
+    (rw c.in-Some.is at c.in_ok-read.ensures.opened) ∙ ap (λ (at : Bool). r_of at c.deref.result.now) at_is ∙ ap (r_of (is_at_start (location_of x))) sub_is in
     let r = read_of read in
     let ty = chunk.cell_type.now in
     let t = c.args.target.now in
@@ -677,7 +669,7 @@ sharding::ShardingCodec::partial_decode_shard_into-returns-then-eq-clause-cells 
     let r_of = λ (at : Bool) (sub : List ℕ). shard_read at (shape_of chunk) sub (box_of c.args.part.now) (bytes_of stored) (refuses_of stored) in
     let read = c.in-Some.read in
     let read_is : read_of read ≡ r_of (is_at_start (location_of x)) (sizes_of (subchunk_sizes_of x)) =
-    (rw c.in-Some.is at c.in_ok-open.ensures.opened) ∙ ap (λ (at : Bool). r_of at c.deref.result.now) at_is ∙ ap (r_of (is_at_start (location_of x))) sub_is in
+    (rw c.in-Some.is at c.in_ok-read.ensures.opened) ∙ ap (λ (at : Bool). r_of at c.deref.result.now) at_is ∙ ap (r_of (is_at_start (location_of x))) sub_is in
     let r = read_of read in
     let ty = chunk.cell_type.now in
     let t = c.args.target.now in
@@ -703,7 +695,7 @@ sharding::ShardingCodec::partial_decode_shard_into-returns-then-eq-clause-whole 
     let r_of = λ (at : Bool) (sub : List ℕ). shard_read at (shape_of chunk) sub (box_of c.args.part.now) (bytes_of stored) (refuses_of stored) in
     let read = c.in-Some.read in
     let read_is : read_of read ≡ r_of (is_at_start (location_of x)) (sizes_of (subchunk_sizes_of x)) =
-    (rw c.in-Some.is at c.in_ok-open.ensures.opened) ∙ ap (λ (at : Bool). r_of at c.deref.result.now) at_is ∙ ap (r_of (is_at_start (location_of x))) sub_is in
+    (rw c.in-Some.is at c.in_ok-read.ensures.opened) ∙ ap (λ (at : Bool). r_of at c.deref.result.now) at_is ∙ ap (r_of (is_at_start (location_of x))) sub_is in
     let r = read_of read in
     let ty = chunk.cell_type.now in
     let t = c.args.target.now in
@@ -721,7 +713,7 @@ sharding::ShardingCodec::partial_decode_shard_into-returns-then-eq-clause-refuse
     let r_of = λ (at : Bool) (sub : List ℕ). shard_read at (shape_of chunk) sub (box_of c.args.part.now) (bytes_of stored) (refuses_of stored) in
     let read = c.in-Some.read in
     let read_is : read_of read ≡ r_of (is_at_start (location_of x)) (sizes_of (subchunk_sizes_of x)) =
-    (rw c.in-Some.is at c.in_ok-open.ensures.opened) ∙ ap (λ (at : Bool). r_of at c.deref.result.now) at_is ∙ ap (r_of (is_at_start (location_of x))) sub_is in
+    (rw c.in-Some.is at c.in_ok-read.ensures.opened) ∙ ap (λ (at : Bool). r_of at c.deref.result.now) at_is ∙ ap (r_of (is_at_start (location_of x))) sub_is in
     let r = read_of read in
     let ty = chunk.cell_type.now in
     let t = c.args.target.now in
@@ -737,7 +729,7 @@ sharding::ShardingCodec::partial_decode_shard_into-returns-clause-cells g t c =
     let r_of = λ (at : Bool) (sub : List ℕ). shard_read at (shape_of chunk) sub (box_of c.args.part.now) (bytes_of stored) (refuses_of stored) in
     let read = c.in-Some.read in
     let read_is : read_of read ≡ r_of (is_at_start (location_of x)) (sizes_of (subchunk_sizes_of x)) =
-    (rw c.in-Some.is at c.in_ok-open.ensures.opened) ∙ ap (λ (at : Bool). r_of at c.deref.result.now) at_is ∙ ap (r_of (is_at_start (location_of x))) sub_is in
+    (rw c.in-Some.is at c.in_ok-read.ensures.opened) ∙ ap (λ (at : Bool). r_of at c.deref.result.now) at_is ∙ ap (r_of (is_at_start (location_of x))) sub_is in
     let r = read_of read in
     let ty = chunk.cell_type.now in
     let t = c.args.target.now in
@@ -757,7 +749,7 @@ sharding::ShardingCodec::partial_decode_shard_into-returns-clause-refused g t c 
     let r_of = λ (at : Bool) (sub : List ℕ). shard_read at (shape_of chunk) sub (box_of c.args.part.now) (bytes_of stored) (refuses_of stored) in
     let read = c.in-Some.read in
     let read_is : read_of read ≡ r_of (is_at_start (location_of x)) (sizes_of (subchunk_sizes_of x)) =
-    (rw c.in-Some.is at c.in_ok-open.ensures.opened) ∙ ap (λ (at : Bool). r_of at c.deref.result.now) at_is ∙ ap (r_of (is_at_start (location_of x))) sub_is in
+    (rw c.in-Some.is at c.in_ok-read.ensures.opened) ∙ ap (λ (at : Bool). r_of at c.deref.result.now) at_is ∙ ap (r_of (is_at_start (location_of x))) sub_is in
     let r = read_of read in
     let ty = chunk.cell_type.now in
     let t = c.args.target.now in
@@ -773,7 +765,7 @@ sharding::ShardingCodec::partial_decode_shard_into-returns-in_default-clause-ref
     let at_is : c.is_at_start-at_start.result ≡ is_at_start (location_of x) = c.is_at_start-at_start.ensures ∙ ap is_at_start c.index_location.ensures in
     let sub_is : c.deref.result.now ≡ sizes_of (subchunk_sizes_of x) = c.deref.ensures.value ∙ c.in_ok-sub.ensures in
     let r_of = λ (at : Bool) (sub : List ℕ). shard_read at (shape_of chunk) sub (box_of c.args.part.now) (bytes_of stored) (refuses_of stored) in
-    let none = rw c.in_default.is at c.in_ok-open.ensures.none in
+    let none = rw c.in_default.is at c.in_ok-read.ensures.none in
     let at = is_at_start (location_of x) in
     let m : ChainMeaning = chain_meaning (inner_chain_of x) in
     let k = chunk_kind chunk in

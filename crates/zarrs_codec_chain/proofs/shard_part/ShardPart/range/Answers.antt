@@ -1,0 +1,48 @@
+use Rattle.std.proofs.Common.{◌≡◌, ◌∙◌, ◌+◌, ◌-◌, ◌*◌, ◌<◌, ◌≤◌, ◌^◌, ◌&&◌, Bool, List, ℕ, Option, Some, None, true, false, refl, ap, arith, drop, length, rules, subst, sym}
+use Rattle.zarrs_codec_chain.specs.OpenShards.{read_of}
+use Rattle.zarrs_codec_chain.proofs.OpenShards.{at_number, data_within, few_bytes, few_subchunks, named_here, opened, range_wider}
+use Rattle.std.specs.Prelude.{slice_index_or}
+use Rattle.zarrs_codec_leaf.specs.Sources.{bytes_in}
+use Rattle.zarrs_codec_shard.specs.ShardIndex.{range_part}
+use Rattle.zarrs_data_type_bytes.proofs.FixedSizes.{some_is}
+use Rattle.zarrs_subset.specs.Pieces.{piece_at}
+use Rattle.zarrs_codec_chain.specs.ShardReads.{count_of, parts_of}
+use Rattle.zarrs_codec_chain.specs.Stored.{bytes_of}
+use Rattle.zarrs_codec_chain.proofs.ReadSteps.{count_fits}
+use Rattle.zarrs_codec_chain.proofs.ShardOpening.{length-index_in}
+use Rattle.zarrs_codec_chain.proofs.shard_part.ShardPart.range.Goals as goal
+
+pub range_at-requires : goal.range_at-requires
+range_at-requires g c =
+    let self = c.args.self.now in
+    let r = read_of self in
+    let is = opened self in
+    omega (arith, ap length (c.as_slice.ensures ∙ self.index_is), length-index_in self.at_start (count_of r) (bytes_of self.stored) (count_fits r is), c.requires)
+
+pub unreachable-requires : goal.unreachable-requires
+unreachable-requires g c =
+    let self = c.args.self.now in
+    let r = read_of self in
+    let is = opened self in
+    let no : None ≡ Some (slice_index_or (parts_of r) c.args.number None) = named_here self c.args.number c.as_slice.result.now None c.as_slice.ensures c.requires (c.in-None.ensures.part (bytes_of self.stored)) in
+    cc
+
+pub returns-in-Some-clause-part : goal.returns-in-Some-clause-part
+returns-in-Some-clause-part g c =
+    let self = c.args.self.now in
+    let r = read_of self in
+    let is = opened self in
+    sym (some_is (named_here self c.args.number c.as_slice.result.now (Some (range_part (bytes_of self.stored) c.in-Some.range)) c.as_slice.ensures c.requires (c.in-Some.ensures.part (bytes_of self.stored))))
+
+pub returns-in-Some-clause-within : goal.returns-in-Some-clause-within
+returns-in-Some-clause-within g c =
+    let self = c.args.self.now in
+    let r = read_of self in
+    let is = opened self in
+    let len = length (bytes_of self.stored) in
+    range_wider self.end len c.in-Some.range (omega (arith, self.end_is, data_within self.at_start (count_of r) len)) c.in-Some.ensures.within
+
+pub returns-in-Some-clause-entry : goal.returns-in-Some-clause-entry
+returns-in-Some-clause-entry g c =
+    let self = c.args.self.now in
+    ap (λ (l : List ℕ). piece_at 16 l c.args.number) (sym (c.as_slice.ensures ∙ self.index_is)) ∙ c.in-Some.ensures.entry
