@@ -25,7 +25,7 @@ use Rattle.zarrs_codec_chain.proofs.ReadSteps.{parts_len}
 use Rattle.zarrs_codec_chain.proofs.SubchunkSteps.{all_parts_decode, broken_shard, inner_refused, step_refused}
 use Rattle.zarrs_codec.specs.ChainLaws.{chain-lawful, sharded-lawful}
 use Rattle.zarrs_codec.specs.Chains.{chain_meaning, inner_chain_of}
-use Rattle.zarrs_codec.specs.ShardChunks.{HasParts, HasPieceOf, RefusesShard, RefusesSubchunks, inner_decoded, shard_as, shard_decoded}
+use Rattle.zarrs_codec.specs.ShardChunks.{HasParts, HasPieceOf, RefusesShard, RefusesReads, inner_decoded, shard_as, shard_decoded}
 use Rattle.zarrs_codec.specs.ShardPartsInto.{HasAllPartsAt, RefusesPiece}
 use Rattle.zarrs_codec.specs.Shardings.{ReadsLargeSubchunk, sharded, subchunk_meaning}
 use Rattle.zarrs_codec.specs.declared.sharding.ShardingCodec.{ShardingCodec}
@@ -58,7 +58,7 @@ module _ (codec : ShardingCodec) (t : CellType) (r : ShardRead) (is : IsOpen r) 
       parts_decode_at k (m.decoded k f r.sub) f r.shape r.sub r.part (parts_of r) box own (subchunk_meaning m false k f r.sub) r.at_start r.encoded held (λ b. refl) is.parts is.cut is.long is.lies counted has
 
   -- why its subchunks are not read is why the part is not
-  pub subchunks_refused : (e : PartError) → RefusesSubchunks codec t r e → RefusesShard codec t r e
+  pub subchunks_refused : (e : PartError) → RefusesReads codec t r e → RefusesShard codec t r e
   subchunks_refused e why =
       step_refused (shard_decoded codec t r) (IsTooLargeToDecode (shard_as codec r) k f r.shape r.part r.encoded) (m.decoded k f r.sub) (ReadsLargeSubchunk m k f r.shape r.sub r.part) (parts_of r) r.refuses e
       (broken_shard k (m.decoded k f r.sub) f r.shape r.sub (subchunk_meaning m false k f r.sub) r.at_start r.encoded (parts_of r) (λ b. refl) is.parts)
@@ -102,15 +102,15 @@ module _ (codec : ShardingCodec) (t : CellType) (r : ShardRead) (is : IsOpen r) 
     -- why the bytes of a subchunk are not read
     pub own_refused : (own : Stored B b) (piece : Box) (e : PartError) → slice_index_or (parts_of r) n None ≡ Some (bytes_of own) → refuses_of own ≡ r.refuses
         → ((x : List ℕ) → IsTooLargeToDecode m k f r.sub piece x → ReadsLargeSubchunk m k f r.shape r.sub r.part n x)
-        → RefusesPartDecoding (m.decoded k f r.sub (bytes_of own)) (IsTooLargeToDecode m k f r.sub piece (bytes_of own)) (refuses_of own) e → RefusesSubchunks codec t r e
+        → RefusesPartDecoding (m.decoded k f r.sub (bytes_of own)) (IsTooLargeToDecode m k f r.sub piece (bytes_of own)) (refuses_of own) e → RefusesReads codec t r e
     own_refused own piece e there refuses large why =
         inner_refused (m.decoded k f r.sub) (ReadsLargeSubchunk m k f r.shape r.sub r.part) (IsTooLargeToDecode m k f r.sub piece (bytes_of own)) (parts_of r) n (bytes_of own) r.refuses e below there (large (bytes_of own))
         (subst (λ (x : Bool). RefusesPartDecoding (m.decoded k f r.sub (bytes_of own)) (IsTooLargeToDecode m k f r.sub piece (bytes_of own)) x e) refuses why)
 
     pub piece_refused : (o : Option (Stored B b)) (piece : Box) (e : PartError) → slice_index_or (parts_of r) n None ≡ option_map bytes_of o → IfSome o (λ own. refuses_of own ≡ r.refuses)
         → ((x : List ℕ) → IsTooLargeToDecode m k f r.sub piece x → ReadsLargeSubchunk m k f r.shape r.sub r.part n x)
-        → RefusesPiece (m.decoded k f r.sub) (IsTooLargeToDecode m k f r.sub piece) o e → RefusesSubchunks codec t r e
-    piece_refused None piece e there refuses large why = subst (RefusesSubchunks codec t r) (sym why) tt
+        → RefusesPiece (m.decoded k f r.sub) (IsTooLargeToDecode m k f r.sub piece) o e → RefusesReads codec t r e
+    piece_refused None piece e there refuses large why = subst (RefusesReads codec t r) (sym why) tt
     piece_refused (Some own) piece e there refuses large why = own_refused own piece e there refuses large why
 
   -- the cells that its chain decodes

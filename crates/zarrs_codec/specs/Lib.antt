@@ -6,6 +6,7 @@ pub mod PartialShardings
 pub mod ShardChunks
 pub mod ShardPartsInto
 pub mod ShardPieces
+pub mod ShardUpdates
 pub mod ShardingBuilders
 pub mod Shardings
 pub mod SoleShardings

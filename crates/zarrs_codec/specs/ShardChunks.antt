@@ -1,5 +1,5 @@
 -- Parts of shards of a cell type that are read: what stands for their subchunks, what is read of them, and why it is not.
-use Rattle.std.specs.Prelude.{◌≡◌, Bool, List, Option, ℕ}
+use Rattle.std.specs.Prelude.{◌≡◌, ◌*◌, ◌<◌, ◌^◌, List, Option, ℕ}
 use Rattle.zarrs_codec_chain.specs.Chain.{ChainMeaning, is_too_large}
 use Rattle.zarrs_codec_chain.specs.PartRefusals.{RefusesPartDecoding}
 use Rattle.zarrs_codec_chain.specs.Refusals.{IsTooLargeToDecode}
@@ -9,10 +9,11 @@ use Rattle.zarrs_codec_chain.specs.declared.error.PartError.{PartError}
 use Rattle.zarrs_data_type.specs.ArrayData.{ArrayData}
 use Rattle.zarrs_data_type.specs.Cell.{Cell}
 use Rattle.zarrs_data_type.specs.CellTypes.{filling, kind_of}
-use Rattle.zarrs_data_type.specs.Kind.{Kind}
+use Rattle.zarrs_data_type.specs.Kind.{Kind, cell_size}
 use Rattle.zarrs_data_type.specs.States.{data_of_target, parent_box, target_box}
 use Rattle.zarrs_data_type_kinds.specs.declared.cell_type.CellType.{CellType}
 use Rattle.zarrs_data_type_region.specs.declared.target.ArrayBytesDecodeIntoTarget.{ArrayBytesDecodeIntoTarget}
+use Rattle.zarrs_subset.specs.Boxes.{position_count}
 use Rattle.zarrs_subset.specs.Regions.{Box}
 use Rattle.zarrs_codec.specs.Chains.{chain_meaning, inner_chain_of}
 use Rattle.zarrs_codec.specs.ShardPartsInto.{HasAllPartsAt, ReadsSubchunkAt}
@@ -43,12 +44,16 @@ RefusesShard codec t r =
     RefusesPartDecoding (shard_decoded codec t r) (IsTooLargeToDecode (shard_as codec r) (kind_of t) (filling t) r.shape r.part r.encoded) r.refuses
 
 -- why the subchunks that it meets are not read
-abbrev pub RefusesSubchunks : ShardingCodec → CellType → ShardRead → PartError → Type 0
-RefusesSubchunks codec t r =
+abbrev pub RefusesReads : ShardingCodec → CellType → ShardRead → PartError → Type 0
+RefusesReads codec t r =
     RefusesStep (inner_decoded codec t r) (ReadsLargeSubchunk (chain_meaning (inner_chain_of codec)) (kind_of t) (filling t) r.shape r.sub r.part)
     (parts_of r) r.refuses
 
 -- ---- cells of the part alone
+
+-- a usize counts the bytes of its cells
+abbrev pub IsCounted : CellType → ShardRead → Type 0
+IsCounted t r = position_count r.part.shape * cell_size (kind_of t) < 2 ^ 64
 
 -- the data has the cells of the subchunks at each position of the part
 abbrev pub HasParts : ShardingCodec → CellType → ShardRead → ArrayData → Type 0

@@ -1,5 +1,5 @@
 -- What a read of a part of a shard into a target has there after some of its subchunks.
-use Rattle.std.specs.Prelude.{◌≡◌, ℕ, Bool, true, Option, None, Some, List, ◌∷◌, [], ◌++◌}
+use Rattle.std.specs.Prelude.{◌≡◌, ℕ, Bool, true, Option, None, Some, option_map, List, ◌∷◌, [], ◌++◌}
 use Rattle.zarrs_data_type.specs.ArrayData.{ArrayData}
 use Rattle.zarrs_data_type.specs.Cells.{cell_at}
 use Rattle.zarrs_codec_leaf.specs.declared.error.CodecError.TheVariants as codec
@@ -10,6 +10,13 @@ use Rattle.zarrs_data_type.specs.Cell.{Cell, is_value}
 use Rattle.zarrs_data_type.specs.Kind.{Kind}
 use Rattle.zarrs_codec_chain.specs.declared.error.PartError.{PartError}
 use Rattle.zarrs_codec_chain.specs.declared.error.PartError.TheVariants.{Codec}
+use Rattle.zarrs_codec_chain.specs.Chain.{ChainMeaning}
+use Rattle.zarrs_codec_chain.specs.Chunks.{decoded_of}
+use Rattle.zarrs_codec_chain.specs.Refusals.{IsTooLargeToDecode}
+use Rattle.zarrs_data_type.specs.CellTypes.{chunk_fill, chunk_kind, shape_of}
+use Rattle.zarrs_data_type.specs.States.{data_of_target, parent_box}
+use Rattle.zarrs_data_type.specs.declared.chunk_type.ChunkType.{ChunkType}
+use Rattle.zarrs_data_type_region.specs.declared.target.ArrayBytesDecodeIntoTarget.{ArrayBytesDecodeIntoTarget}
 use Rattle.zarrs_codec_chain.specs.Stored.{bytes_of, refuses_of}
 use Rattle.zarrs_codec_chain.specs.declared.stored.Stored.{Stored}
 use Rattle.zarrs_codec_chain.specs.Parts.{DecodesPartAt, place_at}
@@ -55,3 +62,12 @@ module _ {B : Type 0} {b : SourceMeaning B} where
   abbrev pub RefusesPiece : (List ℕ → Option (List Cell)) → (TooLarge : List ℕ → Type 0) → Option (Stored B b) → PartError → Type 0
   RefusesPiece decoded TooLarge None e = e ≡ Codec codec.OutOfMemory
   RefusesPiece decoded TooLarge (Some own) e = RefusesPartDecoding (decoded (bytes_of own)) (TooLarge (bytes_of own)) (refuses_of own) e
+
+  -- the same, of a subchunk under a chain
+  abbrev pub RefusesPieceOf : ChainMeaning → ChunkType → (piece : Box) → Option (Stored B b) → PartError → Type 0
+  RefusesPieceOf m c piece = RefusesPiece (decoded_of m c) (IsTooLargeToDecode m (chunk_kind c) (chunk_fill c) (shape_of c) piece)
+
+  -- and what a target that began as `u` has of it in the box `own`
+  abbrev pub HoldsPieceAt : ChainMeaning → ChunkType → (piece : Box) → Option (Stored B b) → (own : Box) → (u v : ArrayBytesDecodeIntoTarget) → Type 0
+  HoldsPieceAt m c piece stored own u v =
+      DecodesPieceAt (chunk_kind c) (decoded_of m c) (chunk_fill c) (shape_of c) piece (option_map bytes_of stored) (parent_box u) own (data_of_target v)

@@ -14,7 +14,7 @@ ghost use Rattle.zarrs_codec_chain.specs.ShardParts.{MeetsPart};
 ghost use Rattle.zarrs_codec_chain.specs.Stored.{MayReadAll, MayReadOf, bytes_of, refuses_of};
 ghost use Rattle.zarrs_codec.specs.Chains.{chain_meaning, inner_chain_of, sharding_meaning};
 ghost use Rattle.zarrs_codec.specs.ShardChunks.{DecodesWhole, HasNoPieceOf, HasParts, HasPieceOf};
-ghost use Rattle.zarrs_codec.specs.ShardChunks.{ReadsOne, RefusesSubchunks};
+ghost use Rattle.zarrs_codec.specs.ShardChunks.{IsCounted, ReadsOne, RefusesReads};
 
 use crate::chain::CodecChain;
 use crate::codec::ArrayToBytesCodec;
@@ -134,12 +134,10 @@ impl ShardingCodec {
         read: &ShardPart<'_, B>,
         cell_type: &CellType,
     ) -> Result<ArrayBytes<'static>, PartError>
-        requires { position_count (read_of read.now).part.shape * cell_size (kind_of cell_type.now)
-            < 2 ^ 64 }
+        requires { IsCounted cell_type.now (read_of read.now) }
         ensures all { IfOk result (λ made. HasParts self.now cell_type.now (read_of read.now)
             (data_of made)) }
-        ensures refused { IfErr result (RefusesSubchunks self.now cell_type.now
-            (read_of read.now)) }
+        ensures refused { IfErr result (RefusesReads self.now cell_type.now (read_of read.now)) }
     {
         let met = read.met(alloc)?;
         // The cells of a part that lies in one subchunk are put into no other data.
@@ -164,13 +162,11 @@ impl ShardingCodec {
         cell_type: &CellType,
         met: &ArraySubset,
     ) -> Result<ArrayBytes<'static>, PartError>
-        requires size { position_count (read_of read.now).part.shape * cell_size
-            (kind_of cell_type.now) < 2 ^ 64 }
+        requires size { IsCounted cell_type.now (read_of read.now) }
         requires met { MeetsPart (read_of read.now).sub (read_of read.now).part (box_of met.now) }
         ensures all { IfOk result (λ made. HasParts self.now cell_type.now (read_of read.now)
             (data_of made)) }
-        ensures refused { IfErr result (RefusesSubchunks self.now cell_type.now
-            (read_of read.now)) }
+        ensures refused { IfErr result (RefusesReads self.now cell_type.now (read_of read.now)) }
     {
         let Ok(count) = read.part.num_elements() else {
             unreachable!()
@@ -204,14 +200,12 @@ impl ShardingCodec {
         held: RegionCells,
         indices: &[u64],
     ) -> Result<RegionCells, PartError>
-        requires size { position_count (read_of read.now).part.shape * cell_size
-            (kind_of cell_type.now) < 2 ^ 64 }
+        requires size { IsCounted cell_type.now (read_of read.now) }
         requires held { HasCells (kind_of cell_type.now) (region_data held)
             (position_count (read_of read.now).part.shape) }
         ensures read { IfOk result (λ made. ReadsOne self.now cell_type.now (read_of read.now)
             indices.now (region_data held) (region_data made)) }
-        ensures refused { IfErr result (RefusesSubchunks self.now cell_type.now
-            (read_of read.now)) }
+        ensures refused { IfErr result (RefusesReads self.now cell_type.now (read_of read.now)) }
     {
         let Some(piece) = self.decode_piece(alloc, read, cell_type, indices)? else {
             return Ok(held);
@@ -232,14 +226,12 @@ impl ShardingCodec {
         cell_type: &CellType,
         indices: &[u64],
     ) -> Result<Option<Piece>, PartError>
-        requires { position_count (read_of read.now).part.shape * cell_size (kind_of cell_type.now)
-            < 2 ^ 64 }
+        requires { IsCounted cell_type.now (read_of read.now) }
         ensures none { IfOk result (λ made. IfNone made (HasNoPieceOf self.now cell_type.now
             (read_of read.now) indices.now)) }
         ensures piece { IfOk result (λ made. IfSome made (λ piece. HasPieceOf self.now cell_type.now
             (read_of read.now) indices.now (box_of piece.shared) (data_of piece.cells))) }
-        ensures refused { IfErr result (RefusesSubchunks self.now cell_type.now
-            (read_of read.now)) }
+        ensures refused { IfErr result (RefusesReads self.now cell_type.now (read_of read.now)) }
     {
         let Some(number) = read.number(indices) else {
             return Ok(None);
@@ -280,7 +272,6 @@ impl ShardingCodec {
             (chain_meaning (inner_chain_of self.now)) chunk.now (box_of part.now)
             (bytes_of stored.now) (refuses_of stored.now)) }
     {
-        self.inner
-            .partial_decode_chunk(alloc, stored, part, chunk)
+        self.inner.partial_decode_chunk(alloc, stored, part, chunk)
     }
 }

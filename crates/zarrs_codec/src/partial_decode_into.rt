@@ -1,7 +1,7 @@
 //! Parts of chunks that are decoded into a box that a caller lends.
-ghost use Rattle.std.specs.Prelude.{◌≡◌, true, IfErr, IfSome, IsSome, OnOk, option_map};
+ghost use Rattle.std.specs.Prelude.{◌≡◌, true, IfErr, IfSome, IsSome, OnOk};
 ghost use Rattle.zarrs_subset.specs.Regions.{LiesInShape, box_of, LiesInBox};
-ghost use Rattle.zarrs_data_type.specs.CellTypes.{chunk_fill, chunk_kind, kind_of, shape_of};
+ghost use Rattle.zarrs_data_type.specs.CellTypes.{chunk_kind, kind_of, shape_of};
 ghost use Rattle.zarrs_data_type.specs.States.{KeepsBut, KeepsTarget, data_of_target};
 ghost use Rattle.zarrs_data_type.specs.States.{parent_box, target_box};
 ghost use Rattle.zarrs_data_type.specs.Targets.{takes_type};
@@ -9,12 +9,11 @@ ghost use Rattle.zarrs_codec_chain.specs.Chunks.{HoldsPartAt, RefusesToDecodePar
 ghost use Rattle.zarrs_codec_chain.specs.OpenShards.{read_of};
 ghost use Rattle.zarrs_codec_chain.specs.Parts.{DecodesInto};
 ghost use Rattle.zarrs_codec_chain.specs.Places.{all_places};
-ghost use Rattle.zarrs_codec_chain.specs.Refusals.{IsTooLargeToDecode};
 ghost use Rattle.zarrs_codec_chain.specs.Stored.{MayReadAll, MayReadOf, bytes_of, refuses_of};
 ghost use Rattle.zarrs_codec.specs.Chains.{chain_meaning, inner_chain_of, sharding_meaning};
 ghost use Rattle.zarrs_codec.specs.ShardChunks.{DecodesWhole, HasPartsAt, ReadsOneAt, RefusesShard};
-ghost use Rattle.zarrs_codec.specs.ShardChunks.{RefusesSubchunks, shard_decoded};
-ghost use Rattle.zarrs_codec.specs.ShardPartsInto.{DecodesPieceAt, RefusesPiece};
+ghost use Rattle.zarrs_codec.specs.ShardChunks.{RefusesReads, shard_decoded};
+ghost use Rattle.zarrs_codec.specs.ShardPartsInto.{HoldsPieceAt, RefusesPieceOf};
 
 use crate::chain::CodecChain;
 use crate::codec::ArrayToBytesCodec;
@@ -194,8 +193,7 @@ impl ShardingCodec {
         ensures kept { KeepsTarget target.old target.new }
         ensures all { OnOk result (HasPartsAt self.now cell_type.now (read_of read.now) target.old
             target.new) }
-        ensures refused { IfErr result (RefusesSubchunks self.now cell_type.now
-            (read_of read.now)) }
+        ensures refused { IfErr result (RefusesReads self.now cell_type.now (read_of read.now)) }
     {
         let met = read.met(alloc)?;
         let Some(mut walk) = met.walk(alloc)? else {
@@ -227,8 +225,7 @@ impl ShardingCodec {
         ensures kept { KeepsTarget target.old target.new }
         ensures read { OnOk result (ReadsOneAt self.now cell_type.now (read_of read.now) indices.now
             target.old target.new) }
-        ensures refused { IfErr result (RefusesSubchunks self.now cell_type.now
-            (read_of read.now)) }
+        ensures refused { IfErr result (RefusesReads self.now cell_type.now (read_of read.now)) }
     {
         let Some(number) = read.number(indices) else {
             return Ok(());
@@ -264,17 +261,13 @@ impl ShardingCodec {
         requires inside { LiesInBox (box_of own.now) (target_box target.old) }
         requires same_shape { (box_of own.now).shape ≡ (box_of piece.now).shape }
         ensures kept { KeepsBut (box_of own.now) target.old target.new }
-        ensures cells { OnOk result (DecodesPieceAt (chunk_kind chunk.now) (decoded_of
-            (chain_meaning (inner_chain_of self.now)) chunk.now) (chunk_fill chunk.now)
-            (shape_of chunk.now) (box_of piece.now) (option_map bytes_of stored.now)
-            (parent_box target.old) (box_of own.now) (data_of_target target.new)) }
+        ensures cells { OnOk result (HoldsPieceAt (chain_meaning (inner_chain_of self.now)) chunk.now
+            (box_of piece.now) stored.now (box_of own.now) target.old target.new) }
         ensures whole { (box_of piece.now).shape ≡ shape_of chunk.now → OnOk result (IfSome
             stored.now (λ own. IsSome (decoded_of (chain_meaning (inner_chain_of self.now))
             chunk.now (bytes_of own)))) }
-        ensures refused { IfErr result (RefusesPiece (decoded_of
-            (chain_meaning (inner_chain_of self.now)) chunk.now) (IsTooLargeToDecode
-            (chain_meaning (inner_chain_of self.now)) (chunk_kind chunk.now) (chunk_fill chunk.now)
-            (shape_of chunk.now) (box_of piece.now)) stored.now) }
+        ensures refused { IfErr result (RefusesPieceOf (chain_meaning (inner_chain_of self.now))
+            chunk.now (box_of piece.now) stored.now) }
     {
         let mut part = target.subdivide(own);
         let done = self.read_piece_into(alloc, stored, piece, chunk, &mut part.target);
@@ -299,17 +292,13 @@ impl ShardingCodec {
             ≡ true }
         requires same_shape { (target_box target.old).shape ≡ (box_of piece.now).shape }
         ensures kept { KeepsTarget target.old target.new }
-        ensures cells { OnOk result (DecodesPieceAt (chunk_kind chunk.now) (decoded_of
-            (chain_meaning (inner_chain_of self.now)) chunk.now) (chunk_fill chunk.now)
-            (shape_of chunk.now) (box_of piece.now) (option_map bytes_of stored.now)
-            (parent_box target.old) (target_box target.old) (data_of_target target.new)) }
+        ensures cells { OnOk result (HoldsPieceAt (chain_meaning (inner_chain_of self.now)) chunk.now
+            (box_of piece.now) stored.now (target_box target.old) target.old target.new) }
         ensures whole { (box_of piece.now).shape ≡ shape_of chunk.now → OnOk result (IfSome
             stored.now (λ own. IsSome (decoded_of (chain_meaning (inner_chain_of self.now))
             chunk.now (bytes_of own)))) }
-        ensures refused { IfErr result (RefusesPiece (decoded_of
-            (chain_meaning (inner_chain_of self.now)) chunk.now) (IsTooLargeToDecode
-            (chain_meaning (inner_chain_of self.now)) (chunk_kind chunk.now) (chunk_fill chunk.now)
-            (shape_of chunk.now) (box_of piece.now)) stored.now) }
+        ensures refused { IfErr result (RefusesPieceOf (chain_meaning (inner_chain_of self.now))
+            chunk.now (box_of piece.now) stored.now) }
     {
         let Some(stored) = stored else {
             let cell_type = chunk.cell_type;

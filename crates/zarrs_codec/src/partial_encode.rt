@@ -1,22 +1,20 @@
 //! Parts of chunks to bytes.
-ghost use Rattle.std.specs.Prelude.{◌≡◌, ◌*◌, ◌<◌, All, IfErr, IfOk, IsSome, OnOk, Some, true};
-ghost use Rattle.std.specs.Prelude.{length, map, option_map};
+ghost use Rattle.std.specs.Prelude.{◌≡◌, ◌<◌, IfErr, IfOk, IsSome, OnOk, Some, true};
+ghost use Rattle.std.specs.Prelude.{length, option_map};
 ghost use Rattle.zarrs_subset.specs.Boxes.{position_count};
 ghost use Rattle.zarrs_subset.specs.Regions.{box_of};
-ghost use Rattle.zarrs_data_type.specs.CellTypes.{chunk_kind, filling, kind_of, shape_of};
+ghost use Rattle.zarrs_data_type.specs.CellTypes.{chunk_kind, kind_of, shape_of};
 ghost use Rattle.zarrs_data_type.specs.ArrayData.{data_of};
 ghost use Rattle.zarrs_data_type.specs.Cells.{cells, HasCells};
 ghost use Rattle.zarrs_codec_shard.specs.ShardIndex.{range_part, IsRangeWithin};
 ghost use Rattle.zarrs_codec_shard.specs.ShardPatches.{change_of};
-ghost use Rattle.zarrs_codec_shard.specs.SubchunkData.{chunk_shape, subchunk_shape};
-ghost use Rattle.zarrs_codec_shard.specs.Subchunks.{subchunk_count};
 ghost use Rattle.zarrs_codec_chain.specs.Chunks.{RefusesToEncodePart, partial_encoding_as};
 ghost use Rattle.zarrs_codec_chain.specs.Options.{stores_empty_chunks};
 ghost use Rattle.zarrs_codec.specs.Chains.{chain_meaning, inner_chain_of, sharding_meaning};
-ghost use Rattle.zarrs_codec.specs.PartialShardings.{AreStoredRanges, changed_part, parts_at, stored_bytes, write_to};
-ghost use Rattle.zarrs_codec.specs.PartialShardings.{RefusesChange, RefusesChanges, RefusesHeld};
-ghost use Rattle.zarrs_codec.specs.PartialShardings.{RefusesIndex, RefusesLarge, RefusesMet, RefusesPatch, RefusesTested};
-ghost use Rattle.zarrs_codec.specs.Shardings.{all_met_decode, decoded_part, part_decodes};
+ghost use Rattle.zarrs_codec.specs.PartialShardings.{RefusesIndex, RefusesLarge, stored_bytes};
+ghost use Rattle.zarrs_codec.specs.ShardUpdates.{DecodesOld, FitsUpdate, IsUpdate, MeetsDecoded, RefusesChangeOf};
+ghost use Rattle.zarrs_codec.specs.ShardUpdates.{RefusesChangesOf, RefusesMetOf, RefusesOld, RefusesOldTest};
+ghost use Rattle.zarrs_codec.specs.ShardUpdates.{RefusesUpdate, WritesUpdate, bytes_in, change_in, count_in, old_decoded};
 
 use crate::chain::CodecChain;
 use crate::codec::ArrayToBytesCodec;
@@ -73,6 +71,19 @@ impl CodecChain {
     }
 }
 
+/// The cells of a part, and the shard that they are written into, whose index stands at the end.
+#[derive(Drop)]
+struct ShardUpdate<'a> {
+    stored: Option<&'a [u8]>,
+    // Where each subchunk stands in what is stored.
+    ranges: Vec<Option<SubchunkRange>>,
+    subchunks: Subchunks,
+    part: &'a ArraySubset,
+    bytes: &'a ArrayBytes<'a>,
+    cell_type: &'a CellType,
+    options: &'a CodecOptions,
+}
+
 impl ShardingCodec {
     /// What is done with the key of a shard, whose index stands at the end, for the cells of a part.
     fn partial_encode_shard(
@@ -112,159 +123,93 @@ impl ShardingCodec {
         let Some(ranges) = stored_ranges(alloc, stored, count)? else {
             return Err(CodecError::DoesNotFit(Misfit::Bytes));
         };
-        self.patch_shard(
-            alloc, stored, &ranges, &subchunks, part, bytes, cell_type, options,
-        )
+        let update = ShardUpdate {
+            stored,
+            ranges,
+            subchunks,
+            part,
+            bytes,
+            cell_type,
+            options,
+        };
+        self.patch_shard(alloc, &update)
     }
 
-    /// The same, of the subchunks that stand at these ranges of what is stored. Where a size is too large, it is told only if
-    /// what the part meets decodes.
+    /// The same, of the subchunks of a shard that was opened. Where a size is too large, it is told only if what the part
+    /// meets decodes.
     fn patch_shard(
         &self,
         alloc: Global,
-        stored: Option<&[u8]>,
-        ranges: &[Option<SubchunkRange>],
-        subchunks: &Subchunks,
-        part: &ArraySubset,
-        bytes: &ArrayBytes<'_>,
-        cell_type: &CellType,
-        options: &CodecOptions,
+        update: &ShardUpdate<'_>,
     ) -> Result<PartialWrite, CodecError>
-        requires dimensions { length (box_of part.now).start ≡ length (chunk_shape subchunks.now) }
-        requires cells { HasCells (kind_of cell_type.now) (data_of bytes.now)
-            (position_count (box_of part.now).shape) }
-        requires fits { (chain_meaning (inner_chain_of self.now)).fits (kind_of cell_type.now)
-            (subchunk_shape subchunks.now) ≡ true }
-        requires ranges { AreStoredRanges subchunks.now (option_map (λ encoded. encoded.now) stored)
-            ranges.now }
-        ensures written { IfOk result (λ write. write_to (chain_meaning (inner_chain_of self.now))
-            (stores_empty_chunks options.now) (kind_of cell_type.now) (filling cell_type.now)
-            (chunk_shape subchunks.now) (subchunk_shape subchunks.now) (option_map
-            (λ encoded. encoded.now) stored.entry) (box_of part.now) (data_of bytes.now) (parts_at
-            (option_map (λ encoded. encoded.now) stored.entry) ranges.now) ≡ Some (change_of
-            write)) }
-        ensures refused { IfErr result (RefusesPatch (chain_meaning (inner_chain_of self.now))
-            (stores_empty_chunks options.now) (kind_of cell_type.now) (filling cell_type.now)
-            (chunk_shape subchunks.now) (subchunk_shape subchunks.now) (box_of part.now)
-            (data_of bytes.now) (parts_at (option_map (λ encoded. encoded.now) stored.entry)
-            ranges.now)) }
+        requires update { IsUpdate update.now }
+        requires fits { FitsUpdate (chain_meaning (inner_chain_of self.now)) update.now }
+        ensures written { IfOk result (WritesUpdate (chain_meaning (inner_chain_of self.now))
+            update.now) }
+        ensures refused { IfErr result (RefusesUpdate (chain_meaning (inner_chain_of self.now))
+            update.now) }
     {
-        let patched = self.patched(
-            alloc, stored, ranges, subchunks, part, bytes, cell_type, options,
-        );
-        match patched {
+        match self.patched(alloc, update) {
             Ok(write) => Ok(write),
             Err(CodecError::SizeOverflow) => {
-                let shard = bytes_of(stored);
-                self.test_met(alloc, shard, ranges, subchunks, part, cell_type)?;
+                self.test_met(alloc, update)?;
                 Err(CodecError::SizeOverflow)
             }
             Err(e) => Err(e),
         }
     }
 
-    /// Tests that the subchunks that a part meets decode, which stand at these ranges of a shard. What is too large to be
-    /// decoded passes.
+    /// Tests that the subchunks that a part meets decode. What is too large to be decoded passes.
     ///
     /// # Errors
     /// `DoesNotFit` if one does not decode; `OutOfMemory` may come at any time.
-    fn test_met(
-        &self,
-        alloc: Global,
-        shard: &[u8],
-        ranges: &[Option<SubchunkRange>],
-        subchunks: &Subchunks,
-        part: &ArraySubset,
-        cell_type: &CellType,
-    ) -> Result<(), CodecError>
-        requires dimensions { length (box_of part.now).start ≡ length (chunk_shape subchunks.now) }
-        requires within { All (IsRangeWithin (length shard.now)) ranges.now }
-        requires count { length ranges.now ≡ subchunk_count (chunk_shape subchunks.now)
-            (subchunk_shape subchunks.now) }
-        ensures decode { OnOk result (all_met_decode (chain_meaning (inner_chain_of self.now))
-            (kind_of cell_type.now) (filling cell_type.now) (chunk_shape subchunks.now)
-            (subchunk_shape subchunks.now) (box_of part.now) (map (range_part shard.now) ranges.now)
-            ≡ true) }
-        ensures refused { IfErr result (RefusesMet (chain_meaning (inner_chain_of self.now))
-            (kind_of cell_type.now) (filling cell_type.now) (subchunk_shape subchunks.now)
-            (map (range_part shard.now) ranges.now)) }
+    fn test_met(&self, alloc: Global, update: &ShardUpdate<'_>) -> Result<(), CodecError>
+        requires { IsUpdate update.now }
+        ensures decode { OnOk result (MeetsDecoded (chain_meaning (inner_chain_of self.now))
+            update.now) }
+        ensures refused { IfErr result (RefusesMetOf (chain_meaning (inner_chain_of self.now))
+            update.now) }
     {
-        for (number, range) in ranges.iter().enumerate() {
-            if subchunks.meets(alloc, part, number as u64)? {
-                self.test_part(alloc, shard, *range, subchunks, cell_type)?;
+        for (number, range) in update.ranges.iter().enumerate() {
+            if update.subchunks.meets(alloc, update.part, number as u64)? {
+                self.test_part(alloc, update, *range)?;
             }
         }
         Ok(())
     }
 
-    /// The same of the subchunk that stands at this range of a shard.
+    /// The same of the subchunk that stands at this range of the shard.
     fn test_part(
         &self,
         alloc: Global,
-        shard: &[u8],
+        update: &ShardUpdate<'_>,
         range: Option<SubchunkRange>,
-        subchunks: &Subchunks,
-        cell_type: &CellType,
     ) -> Result<(), CodecError>
-        requires within { IsRangeWithin (length shard.now) range }
-        ensures decode { OnOk result (part_decodes (chain_meaning (inner_chain_of self.now))
-            (kind_of cell_type.now) (filling cell_type.now) (subchunk_shape subchunks.now)
-            (range_part shard.now range) ≡ true) }
-        ensures refused { IfErr result (RefusesTested (chain_meaning (inner_chain_of self.now))
-            (kind_of cell_type.now) (filling cell_type.now) (subchunk_shape subchunks.now)
-            (range_part shard.now range)) }
+        requires within { IsRangeWithin (length (bytes_in update.now)) range }
+        ensures decode { OnOk result (DecodesOld (chain_meaning (inner_chain_of self.now))
+            update.now (range_part (bytes_in update.now) range)) }
+        ensures refused { IfErr result (RefusesOldTest (chain_meaning (inner_chain_of self.now))
+            update.now (range_part (bytes_in update.now) range)) }
     {
-        match self.held_part(alloc, shard, range, subchunks, cell_type) {
+        match self.held_part(alloc, update, range) {
             Ok(_) | Err(CodecError::SizeOverflow) => Ok(()),
             Err(e) => Err(e),
         }
     }
 
-    /// The same, subchunk by subchunk.
-    fn patched(
-        &self,
-        alloc: Global,
-        stored: Option<&[u8]>,
-        ranges: &[Option<SubchunkRange>],
-        subchunks: &Subchunks,
-        part: &ArraySubset,
-        bytes: &ArrayBytes<'_>,
-        cell_type: &CellType,
-        options: &CodecOptions,
-    ) -> Result<PartialWrite, CodecError>
-        requires dimensions { length (box_of part.now).start ≡ length (chunk_shape subchunks.now) }
-        requires cells { HasCells (kind_of cell_type.now) (data_of bytes.now)
-            (position_count (box_of part.now).shape) }
-        requires fits { (chain_meaning (inner_chain_of self.now)).fits (kind_of cell_type.now)
-            (subchunk_shape subchunks.now) ≡ true }
-        requires ranges { AreStoredRanges subchunks.now (option_map (λ encoded. encoded.now) stored)
-            ranges.now }
-        ensures written { IfOk result (λ write. write_to (chain_meaning (inner_chain_of self.now))
-            (stores_empty_chunks options.now) (kind_of cell_type.now) (filling cell_type.now)
-            (chunk_shape subchunks.now) (subchunk_shape subchunks.now) (option_map
-            (λ encoded. encoded.now) stored.entry) (box_of part.now) (data_of bytes.now) (parts_at
-            (option_map (λ encoded. encoded.now) stored.entry) ranges.now) ≡ Some (change_of
-            write)) }
-        ensures refused { IfErr result (RefusesChanges (chain_meaning (inner_chain_of self.now))
-            (stores_empty_chunks options.now) (kind_of cell_type.now) (filling cell_type.now)
-            (chunk_shape subchunks.now) (subchunk_shape subchunks.now) (box_of part.now)
-            (data_of bytes.now) (parts_at (option_map (λ encoded. encoded.now) stored.entry)
-            ranges.now)) }
+    /// What is done with the key, subchunk by subchunk.
+    fn patched(&self, alloc: Global, update: &ShardUpdate<'_>) -> Result<PartialWrite, CodecError>
+        requires update { IsUpdate update.now }
+        requires fits { FitsUpdate (chain_meaning (inner_chain_of self.now)) update.now }
+        ensures written { IfOk result (WritesUpdate (chain_meaning (inner_chain_of self.now))
+            update.now) }
+        ensures refused { IfErr result (RefusesChangesOf (chain_meaning (inner_chain_of self.now))
+            update.now) }
     {
-        let shard = bytes_of(stored);
-        let mut patch = ShardPatch::new(alloc, stored, ranges.len() as u64)?;
-        for (number, range) in ranges.iter().enumerate() {
-            let change = self.changed(
-                alloc,
-                shard,
-                *range,
-                subchunks,
-                part,
-                bytes,
-                cell_type,
-                number as u64,
-                options,
-            )?;
+        let count = update.ranges.len() as u64;
+        let mut patch = ShardPatch::new(alloc, update.stored, count)?;
+        for (number, range) in update.ranges.iter().enumerate() {
+            let change = self.changed(alloc, update, *range, number as u64)?;
             patch.push(range.is_some(), &change)?;
         }
         Ok(patch.finish()?)
@@ -275,44 +220,33 @@ impl ShardingCodec {
     fn changed(
         &self,
         alloc: Global,
-        shard: &[u8],
+        update: &ShardUpdate<'_>,
         range: Option<SubchunkRange>,
-        subchunks: &Subchunks,
-        part: &ArraySubset,
-        bytes: &ArrayBytes<'_>,
-        cell_type: &CellType,
         number: u64,
-        options: &CodecOptions,
     ) -> Result<Option<Option<Vec<u8>>>, CodecError>
-        requires within { IsRangeWithin (length shard.now) range }
-        requires number { number < subchunk_count (chunk_shape subchunks.now)
-            (subchunk_shape subchunks.now) }
-        requires dimensions { length (box_of part.now).start ≡ length (chunk_shape subchunks.now) }
-        requires cells { HasCells (kind_of cell_type.now) (data_of bytes.now)
-            (position_count (box_of part.now).shape) }
-        requires fits { (chain_meaning (inner_chain_of self.now)).fits (kind_of cell_type.now)
-            (subchunk_shape subchunks.now) ≡ true }
-        ensures change { IfOk result (λ change. changed_part
-            (chain_meaning (inner_chain_of self.now)) (stores_empty_chunks options.now)
-            (kind_of cell_type.now) (filling cell_type.now) (chunk_shape subchunks.now)
-            (subchunk_shape subchunks.now) (box_of part.now) (data_of bytes.now) number
-            (range_part shard.now range) ≡ Some (option_map
+        requires update { IsUpdate update.now }
+        requires fits { FitsUpdate (chain_meaning (inner_chain_of self.now)) update.now }
+        requires within { IsRangeWithin (length (bytes_in update.now)) range }
+        requires number { number < count_in update.now }
+        ensures change { IfOk result (λ change. change_in (chain_meaning (inner_chain_of self.now))
+            update.now number (range_part (bytes_in update.now) range) ≡ Some (option_map
             (λ part. option_map (λ bytes. bytes.items) part) change)) }
-        ensures refused { IfErr result (RefusesChange (chain_meaning (inner_chain_of self.now))
-            (stores_empty_chunks options.now) (kind_of cell_type.now) (filling cell_type.now)
-            (chunk_shape subchunks.now) (subchunk_shape subchunks.now) (box_of part.now)
-            (data_of bytes.now) number (range_part shard.now range)) }
+        ensures refused { IfErr result (RefusesChangeOf (chain_meaning (inner_chain_of self.now))
+            update.now number (range_part (bytes_in update.now) range)) }
     {
-        if !subchunks.meets(alloc, part, number)? {
+        let subchunks = &update.subchunks;
+        if !subchunks.meets(alloc, update.part, number)? {
             return Ok(None);
         }
-        let held = self.held_part(alloc, shard, range, subchunks, cell_type)?;
+        let cell_type = update.cell_type;
+        let held = self.held_part(alloc, update, range)?;
+        let (part, bytes) = (update.part, update.bytes);
         let updated = subchunks.update(alloc, held, part, bytes, &cell_type.data_type, number)?;
         let inner = ChunkType {
             cell_type,
             shape: subchunks.shape(),
         };
-        let encoded = self.encode_part(alloc, updated, &inner, options)?;
+        let encoded = self.encode_part(alloc, updated, &inner, update.options)?;
         Ok(Some(encoded))
     }
 
@@ -329,24 +263,23 @@ impl ShardingCodec {
         }
     }
 
-    /// The cells of the subchunk that stands at this range of a shard.
+    /// The cells of the subchunk that stands at this range of the shard.
     fn held_part(
         &self,
         alloc: Global,
-        shard: &[u8],
+        update: &ShardUpdate<'_>,
         range: Option<SubchunkRange>,
-        subchunks: &Subchunks,
-        cell_type: &CellType,
     ) -> Result<ArrayBytes<'static>, CodecError>
-        requires within { IsRangeWithin (length shard.now) range }
-        ensures cells { IfOk result (λ made. cells (kind_of cell_type.now) (data_of made)
-            ≡ decoded_part (chain_meaning (inner_chain_of self.now)) (kind_of cell_type.now)
-            (filling cell_type.now) (subchunk_shape subchunks.now) (range_part shard.now range)) }
-        ensures some { IfOk result (λ made. IsSome (cells (kind_of cell_type.now) (data_of made))) }
-        ensures refused { IfErr result (RefusesHeld (chain_meaning (inner_chain_of self.now))
-            (kind_of cell_type.now) (filling cell_type.now) (subchunk_shape subchunks.now)
-            (range_part shard.now range)) }
+        requires within { IsRangeWithin (length (bytes_in update.now)) range }
+        ensures cells { IfOk result (λ made. cells (kind_of update.now.cell_type.now) (data_of made)
+            ≡ old_decoded (chain_meaning (inner_chain_of self.now)) update.now
+            (range_part (bytes_in update.now) range)) }
+        ensures some { IfOk result (λ made. IsSome (cells (kind_of update.now.cell_type.now)
+            (data_of made))) }
+        ensures refused { IfErr result (RefusesOld (chain_meaning (inner_chain_of self.now))
+            update.now (range_part (bytes_in update.now) range)) }
     {
+        let (subchunks, cell_type) = (&update.subchunks, update.cell_type);
         let Some(range) = range else {
             return match subchunks.new_fill_part(
                 alloc,
@@ -357,7 +290,7 @@ impl ShardingCodec {
                 None => Err(CodecError::SizeOverflow),
             };
         };
-        let encoded = &shard[range.start..range.end];
+        let encoded = &bytes_of(update.stored)[range.start..range.end];
         let sub = subchunks.shape();
         if !is_counted(sub, &cell_type.data_type) {
             return Err(self.refusal_of_large());

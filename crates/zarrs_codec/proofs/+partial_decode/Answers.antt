@@ -10,7 +10,7 @@ use Rattle.zarrs_data_type.specs.Cells.{cells}
 use Rattle.zarrs_codec_chain.specs.Chain.{ChainMeaning}
 use Rattle.zarrs_codec.specs.ChainLaws.{chain-lawful}
 use Rattle.zarrs_codec.specs.Chains.{codec_meaning, chain_meaning, inner_chain_of, is_at_start, location_of, subchunk_sizes_of, sharding_meaning}
-use Rattle.zarrs_codec.specs.ShardChunks.{HasParts, RefusesShard, RefusesSubchunks, shard_decoded}
+use Rattle.zarrs_codec.specs.ShardChunks.{HasParts, RefusesShard, RefusesReads, shard_decoded}
 use Rattle.zarrs_codec.specs.Shardings.{subchunk_meaning}
 use Rattle.zarrs_codec.proofs.PartReads.{alone_refused, is_none, leaf_refused}
 use Rattle.zarrs_codec.proofs.Pieces.{piece_alone, piece_cells, piece_put}
@@ -102,7 +102,7 @@ sharding::ShardingCodec::decode_piece-returns-in_err-cells-clause-refused g t c 
     let shape_is : c.subchunk_shape.result.now ≡ r.sub = c.subchunk_shape.ensures in
     let stored = c.in-Some-subchunk.stored in
     let e = c.in_err-cells.field-0.0 in
-    err_kept c.from_residual-in_err-cells.result e (RefusesSubchunks c.args.self.now c.args.cell_type.now r) c.from_residual-in_err-cells.ensures.1
+    err_kept c.from_residual-in_err-cells.result e (RefusesReads c.args.self.now c.args.cell_type.now r) c.from_residual-in_err-cells.ensures.1
     (own_refused c.args.self.now c.args.cell_type.now r is n at.below stored own e c.in-Some-subchunk.ensures.bytes c.in-Some-subchunk.ensures.refuses
     (large_share c.args.self.now c.args.cell_type.now r is i n shared own share)
     (subst (λ (x : List ℕ). RefusesPartDecoding (m.decoded k f x (bytes_of stored)) (IsTooLargeToDecode m k f x own (bytes_of stored)) (refuses_of stored) e) shape_is c.in_err-cells.ensures.refused))

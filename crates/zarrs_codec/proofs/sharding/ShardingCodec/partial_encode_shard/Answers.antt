@@ -18,8 +18,8 @@ use Rattle.zarrs_codec.specs.PartialShardings.{stored_bytes}
 use Rattle.zarrs_codec.proofs.PatchedShards.{at_end, is_opened, IsOpened}
 use Rattle.zarrs_codec.proofs.sharding.ShardingCodec.partial_encode_shard.Goals as goal
 
-pub patch_shard-requires-clause-ranges : goal.patch_shard-requires-clause-ranges
-patch_shard-requires-clause-ranges c =
+pub patch_shard-requires-clause-update : goal.patch_shard-requires-clause-update
+patch_shard-requires-clause-update c =
     let k = chunk_kind c.args.chunk.now in
     let f = chunk_fill c.args.chunk.now in
     let empty = stores_empty_chunks c.args.options.now in
@@ -30,7 +30,7 @@ patch_shard-requires-clause-ranges c =
     let part = box_of c.args.part.now in
     let d = data_of c.args.bytes.now in
     let subchunks = c.in-Some.subchunks in
-    let ranges = c.deref-3.result.now in
+    let ranges = c.in-Some-2.ranges.items in
     let count = c.in-Some-indexed_count.count in
     let m : ChainMeaning = chain_meaning (inner_chain_of c.args.self.now) in
     let at = is_at_start (location_of c.args.self.now) in
@@ -40,17 +40,20 @@ patch_shard-requires-clause-ranges c =
     let fit : m.fits k sub ≡ true =
     subst (λ x. m.fits k x ≡ true) (c.deref-2.ensures.value ∙ sub_is)
     (subst (λ x. (chain_meaning x).fits k c.deref-2.result.now ≡ true) c.inner_codecs.ensures (sym c.in_ok-fits_chunk.ensures ∙ c.if-not-branch.false)) in
-    let given : stored_parts count stored ≡ Some (map (range_part b) c.in-Some-2.ranges.items) = search rules in
-    let read : stored_parts count stored ≡ Some (map (range_part b) ranges) = given ∙ ap (λ l. Some (map (range_part b) l)) (sym c.deref-3.ensures.value) in
+    let read : stored_parts count stored ≡ Some (map (range_part b) ranges) = search rules in
     let r : IsOpened m at empty k f s sub part d stored (chunk_shape subchunks) (subchunk_shape subchunks) (map (range_part b) ranges) =
     is_opened m at empty k f s sub part d stored (chunk_shape subchunks) (subchunk_shape subchunks) (map (range_part b) ranges) count (position_count part.shape) shape_is (cut_is ∙ c.deref.ensures.value ∙ sub_is)
     (at_end at c.requires.supported) subchunks.cut fit c.in-Some-indexed_count.ensures.none c.in-Some-indexed_count.ensures.few read c.requires.cells in
     let counted : length ranges ≡ subchunk_count (chunk_shape subchunks) (subchunk_shape subchunks) = sym (length-map ranges (range_part b)) ∙ r.long in
     record {
-      within = search rules;
-      count = counted;
-      few = omega (arith, counted, c.in-Some-indexed_count.ensures.none, c.in-Some-indexed_count.ensures.few);
-      parts = subst (λ j. stored_parts j stored ≡ Some (map (range_part b) ranges)) (c.in-Some-indexed_count.ensures.none ∙ sym counted) read;
+      dimensions = c.requires.dimensions ∙ ap length (sym shape_is);
+      cells = c.requires.cells;
+      ranges = record {
+        within = search rules;
+        count = counted;
+        few = omega (arith, counted, c.in-Some-indexed_count.ensures.none, c.in-Some-indexed_count.ensures.few);
+        parts = subst (λ j. stored_parts j stored ≡ Some (map (range_part b) ranges)) (c.in-Some-indexed_count.ensures.none ∙ sym counted) read;
+      };
     }
 
 pub returns : goal.returns
@@ -65,7 +68,7 @@ returns c =
     let part = box_of c.args.part.now in
     let d = data_of c.args.bytes.now in
     let subchunks = c.in-Some.subchunks in
-    let ranges = c.deref-3.result.now in
+    let ranges = c.in-Some-2.ranges.items in
     let count = c.in-Some-indexed_count.count in
     let m : ChainMeaning = chain_meaning (inner_chain_of c.args.self.now) in
     let at = is_at_start (location_of c.args.self.now) in
@@ -75,8 +78,7 @@ returns c =
     let fit : m.fits k sub ≡ true =
     subst (λ x. m.fits k x ≡ true) (c.deref-2.ensures.value ∙ sub_is)
     (subst (λ x. (chain_meaning x).fits k c.deref-2.result.now ≡ true) c.inner_codecs.ensures (sym c.in_ok-fits_chunk.ensures ∙ c.if-not-branch.false)) in
-    let given : stored_parts count stored ≡ Some (map (range_part b) c.in-Some-2.ranges.items) = search rules in
-    let read : stored_parts count stored ≡ Some (map (range_part b) ranges) = given ∙ ap (λ l. Some (map (range_part b) l)) (sym c.deref-3.ensures.value) in
+    let read : stored_parts count stored ≡ Some (map (range_part b) ranges) = search rules in
     let r : IsOpened m at empty k f s sub part d stored (chunk_shape subchunks) (subchunk_shape subchunks) (map (range_part b) ranges) =
     is_opened m at empty k f s sub part d stored (chunk_shape subchunks) (subchunk_shape subchunks) (map (range_part b) ranges) count (position_count part.shape) shape_is (cut_is ∙ c.deref.ensures.value ∙ sub_is)
     (at_end at c.requires.supported) subchunks.cut fit c.in-Some-indexed_count.ensures.none c.in-Some-indexed_count.ensures.few read c.requires.cells in

@@ -1,5 +1,5 @@
 use Rattle.zarrs_data_type.specs.CellTypes.{filling, kind_of}
-use Rattle.std.proofs.Common.{rules, arith, ◌≡◌, ◌<◌, None, Some, is_some, get_or, length, map, option_map, refl, sym, ap, subst, ◌∙◌}
+use Rattle.std.proofs.Common.{rules, arith, ◌≡◌, ◌<◌, None, Some, is_some, get_or, length, option_map, refl, sym, ap, subst, ◌∙◌}
 use Rattle.zarrs_data_type.specs.ArrayData.{data_of}
 use Rattle.zarrs_subset.specs.Regions.{box_of}
 use Rattle.zarrs_codec_shard.specs.ShardIndex.{range_part}
@@ -8,71 +8,87 @@ use Rattle.zarrs_codec_shard.specs.SubchunkData.{chunk_shape, subchunk_shape}
 use Rattle.zarrs_codec_chain.specs.Chain.{ChainMeaning}
 use Rattle.zarrs_codec_chain.specs.Options.{stores_empty_chunks}
 use Rattle.zarrs_codec.specs.Chains.{chain_meaning, inner_chain_of}
-use Rattle.zarrs_codec.specs.PartialShardings.{changed_part, stored_bytes, HasFirstChanges}
+use Rattle.zarrs_codec.specs.PartialShardings.{HasFirstChanges}
+use Rattle.zarrs_codec.specs.ShardUpdates.{bytes_in, change_in, parts_in, stored_in}
 use Rattle.zarrs_codec.proofs.PartCells.{part_at}
 use Rattle.zarrs_codec.proofs.Patches.{changes_more, changes_started, has_room, present_part, write_is}
 use Rattle.zarrs_codec.proofs.sharding.ShardingCodec.patched.Goals as goal
 
 pub loop-number-init : goal.loop-number-init
 loop-number-init c =
-    let k = kind_of c.args.cell_type.now in
-    let stored = option_map (λ encoded. encoded.now) c.args.stored in
-    let ranges = c.args.ranges.now in
-    let parts = map (range_part (stored_bytes stored)) ranges in
-    changes_started (chain_meaning (inner_chain_of c.args.self.now)) (stores_empty_chunks c.args.options.now) k (filling c.args.cell_type.now) (chunk_shape c.args.subchunks.now) (subchunk_shape c.args.subchunks.now)
-    (box_of c.args.part.now) (data_of c.args.bytes.now) stored parts (length ranges) c.in_ok-patch.patch (c.in_ok-patch.ensures parts)
+    let u = c.args.update.now in
+    let k = kind_of u.cell_type.now in
+    let f = filling u.cell_type.now in
+    let m : ChainMeaning = chain_meaning (inner_chain_of c.args.self.now) in
+    let s = chunk_shape u.subchunks in
+    let sub = subchunk_shape u.subchunks in
+    let empty = stores_empty_chunks u.options.now in
+    let part = box_of u.part.now in
+    let d = data_of u.bytes.now in
+    let stored = stored_in u in
+    let ranges = u.ranges.items in
+    let parts = parts_in u in
+    changes_started m empty k f s sub part d stored parts (length ranges) c.in_ok-patch.patch (c.in_ok-patch.ensures parts)
 
 pub push-requires : goal.push-requires
 push-requires c =
-    let k = kind_of c.args.cell_type.now in
-    let stored = option_map (λ encoded. encoded.now) c.args.stored in
-    let ranges = c.args.ranges.now in
-    let parts = map (range_part (stored_bytes stored)) ranges in
+    let u = c.args.update.now in
+    let k = kind_of u.cell_type.now in
+    let f = filling u.cell_type.now in
+    let m : ChainMeaning = chain_meaning (inner_chain_of c.args.self.now) in
+    let s = chunk_shape u.subchunks in
+    let sub = subchunk_shape u.subchunks in
+    let empty = stores_empty_chunks u.options.now in
+    let part = box_of u.part.now in
+    let d = data_of u.bytes.now in
+    let stored = stored_in u in
+    let ranges = u.ranges.items in
+    let parts = parts_in u in
     let number = c.loop-number.number in
     let below : number < length ranges = omega arith in
-    has_room (chain_meaning (inner_chain_of c.args.self.now)) (stores_empty_chunks c.args.options.now) k (filling c.args.cell_type.now) (chunk_shape c.args.subchunks.now) (subchunk_shape c.args.subchunks.now)
-    (box_of c.args.part.now) (data_of c.args.bytes.now) stored parts (length ranges) number c.loop-number.patch c.requires.ranges.parts below c.loop-number.invariant
+    has_room m empty k f s sub part d stored parts (length ranges) number c.loop-number.patch c.requires.update.ranges.parts below c.loop-number.invariant
 
 pub loop-number-preserved : goal.loop-number-preserved
 loop-number-preserved c =
-    let k = kind_of c.args.cell_type.now in
-    let f = filling c.args.cell_type.now in
+    let u = c.args.update.now in
+    let k = kind_of u.cell_type.now in
+    let f = filling u.cell_type.now in
     let m : ChainMeaning = chain_meaning (inner_chain_of c.args.self.now) in
-    let empty = stores_empty_chunks c.args.options.now in
-    let s = chunk_shape c.args.subchunks.now in
-    let sub = subchunk_shape c.args.subchunks.now in
-    let stored = option_map (λ encoded. encoded.now) c.args.stored in
-    let b = stored_bytes stored in
-    let ranges = c.args.ranges.now in
-    let parts = map (range_part b) ranges in
-    let part = box_of c.args.part.now in
-    let d = data_of c.args.bytes.now in
+    let s = chunk_shape u.subchunks in
+    let sub = subchunk_shape u.subchunks in
+    let empty = stores_empty_chunks u.options.now in
+    let part = box_of u.part.now in
+    let d = data_of u.bytes.now in
+    let stored = stored_in u in
+    let ranges = u.ranges.items in
+    let parts = parts_in u in
+    let b = bytes_in u in
     let number = c.loop-number.number in
     let below : number < length ranges = omega arith in
     let range = get_or ranges number None in
     let part_is : get_or parts number None ≡ range_part b range = part_at b ranges number range below refl in
     let change = option_map (λ part. option_map (λ bytes. bytes.items) part) c.in_ok-change.change in
-    let made : changed_part m empty k f s sub part d number (range_part c.bytes_of-shard.result.now range) ≡ Some change = search rules in
-    let here : changed_part m empty k f s sub part d number (get_or parts number None) ≡ Some change =
-    ap (changed_part m empty k f s sub part d number) (part_is ∙ ap (λ x. range_part x range) (sym c.bytes_of-shard.ensures)) ∙ made in
+    let made : change_in m u number (range_part b range) ≡ Some change = search rules in
+    let here : change_in m u number (get_or parts number None) ≡ Some change = ap (change_in m u number) part_is ∙ made in
     let same : c.is_some.result ≡ is_some range = search rules in
     let present : c.is_some.result ≡ is_some (get_or parts number None) = same ∙ present_part b range ∙ ap is_some (sym part_is) in
-    changes_more m empty k f s sub part d stored parts (length ranges) number c.loop-number.patch c.push.new.self c.is_some.result change c.requires.ranges.parts below present here c.loop-number.invariant c.in_ok-push.ensures.pushed
+    changes_more m empty k f s sub part d stored parts (length ranges) number c.loop-number.patch c.push.new.self c.is_some.result change c.requires.update.ranges.parts below present here c.loop-number.invariant c.in_ok-push.ensures.pushed
 
 pub returns-clause-written : goal.returns-clause-written
 returns-clause-written c =
-    let k = kind_of c.args.cell_type.now in
-    let f = filling c.args.cell_type.now in
+    let u = c.args.update.now in
+    let k = kind_of u.cell_type.now in
+    let f = filling u.cell_type.now in
     let m : ChainMeaning = chain_meaning (inner_chain_of c.args.self.now) in
-    let empty = stores_empty_chunks c.args.options.now in
-    let s = chunk_shape c.args.subchunks.now in
-    let sub = subchunk_shape c.args.subchunks.now in
-    let stored = option_map (λ encoded. encoded.now) c.args.stored in
-    let ranges = c.args.ranges.now in
-    let parts = map (range_part (stored_bytes stored)) ranges in
-    let part = box_of c.args.part.now in
-    let d = data_of c.args.bytes.now in
+    let s = chunk_shape u.subchunks in
+    let sub = subchunk_shape u.subchunks in
+    let empty = stores_empty_chunks u.options.now in
+    let part = box_of u.part.now in
+    let d = data_of u.bytes.now in
+    let stored = stored_in u in
+    let ranges = u.ranges.items in
+    let parts = parts_in u in
     let patch = c.loop-number.patch in
     let done : c.loop-number.number ≡ length ranges = omega arith in
-    write_is m empty k f s sub part d stored parts (length ranges) patch (change_of c.in_ok-finish.field-0) c.requires.ranges.count c.requires.ranges.parts
+    write_is m empty k f s sub part d stored parts (length ranges) patch (change_of c.in_ok-finish.field-0) c.requires.update.ranges.count c.requires.update.ranges.parts
     (subst (λ n. HasFirstChanges m empty k f s sub stored part d parts (length ranges) n patch) done c.loop-number.invariant) c.in_ok-finish.ensures
