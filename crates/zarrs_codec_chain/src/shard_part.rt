@@ -150,7 +150,9 @@ impl<'s, B: ByteSource> ShardPart<'s, B> {
         ensures none { IfNone result (HasNone (read_of self.now) indices.now) }
         ensures number { IfSome result (IsAt (read_of self.now) indices.now) }
     {
-        let number = ravel_indices(indices, self.subchunks.grid())?;
+        let Some(number) = ravel_indices(indices, self.subchunks.grid()) else {
+            return None;
+        };
         Some(number)
     }
 
@@ -175,10 +177,11 @@ impl<'s, B: ByteSource> ShardPart<'s, B> {
         ensures within { IsRangeWithin (length (read_of self.now).encoded) result }
         ensures entry { entry_of (read_of self.now) number ≡ range_entry result }
     {
-        match range_at(self.index.as_slice(), number as usize, self.start, self.end) {
-            Some(range) => range,
-            None => unreachable!(),
-        }
+        let index = self.index.as_slice();
+        let Some(range) = range_at(index, number as usize, self.start, self.end) else {
+            unreachable!()
+        };
+        range
     }
 
     /// What the part shares with the subchunk of this number, or `None` if that is nothing.

@@ -31,7 +31,7 @@ impl<'s, B: ByteSource> Stored<'s, B> {
     /// The bytes of a window of a source.
     pub fn new(source: &'s B, window: Window) -> Stored<'s, B>
         requires { IsWindow window (B.bytes source.now) }
-        ensures source { result.source ≡ source }
+        ensures source { result.source ≡ source.entry }
         ensures window { result.window ≡ window }
     {
         let _counted = source.size();

@@ -7,13 +7,13 @@ use Rattle.zarrs_subset.proofs.Kernel.{place_below}
 use Rattle.zarrs_codec_chain.proofs.ReadSteps.{none_unfound}
 use Rattle.zarrs_codec_chain.proofs.shard_part.ShardPart.number.Goals as goal
 
-pub returns-in_err-number-clause-none : goal.returns-in_err-number-clause-none
-returns-in_err-number-clause-none g c =
+pub returns-in_default-clause-none : goal.returns-in_default-clause-none
+returns-in_default-clause-none g c =
     let self = c.args.self.now in
     let r = read_of self in
     let is = opened self in
     let i = c.args.indices.now in
-    none_unfound r is i (subst (λ (x : List ℕ). InShape x i → 2 ^ 64 ≤ place x i) c.grid.ensures c.in_err-number.ensures) (few_subchunks self)
+    none_unfound r is i (subst (λ (x : List ℕ). InShape x i → 2 ^ 64 ≤ place x i) c.grid.ensures c.in_default.ensures) (few_subchunks self)
 
 pub returns-clause-number : goal.returns-clause-number
 returns-clause-number g c =
@@ -21,6 +21,6 @@ returns-clause-number g c =
     let r = read_of self in
     let is = opened self in
     let i = c.args.indices.now in
-    let in_grid = subst (λ (x : List ℕ). InShape x i) c.grid.ensures c.in_ok-number.ensures.0 in
-    let at_n : place (quotients r.shape r.sub) i ≡ c.in_ok-number.number = sym (c.in_ok-number.ensures.1 ∙ ap (λ (x : List ℕ). place x i) c.grid.ensures) in
+    let in_grid = subst (λ (x : List ℕ). InShape x i) c.grid.ensures c.in-Some.ensures.0 in
+    let at_n : place (quotients r.shape r.sub) i ≡ c.in-Some.number = sym (c.in-Some.ensures.1 ∙ ap (λ (x : List ℕ). place x i) c.grid.ensures) in
     record { in_grid = in_grid; at_n = at_n; below = omega (arith, place_below (quotients r.shape r.sub) i in_grid) }

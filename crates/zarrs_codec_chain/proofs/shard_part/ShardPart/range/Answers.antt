@@ -17,32 +17,32 @@ range_at-requires g c =
     let self = c.args.self.now in
     let r = read_of self in
     let is = opened self in
-    omega (arith, ap length (c.as_slice.ensures ∙ self.index_is), length-index_in self.at_start (count_of r) (bytes_of self.stored) (count_fits r is), c.requires)
+    omega (arith, ap length (c.as_slice-index.ensures ∙ self.index_is), length-index_in self.at_start (count_of r) (bytes_of self.stored) (count_fits r is), c.requires)
 
 pub unreachable-requires : goal.unreachable-requires
 unreachable-requires g c =
     let self = c.args.self.now in
     let r = read_of self in
     let is = opened self in
-    let no : None ≡ Some (slice_index_or (parts_of r) c.args.number None) = named_here self c.args.number c.as_slice.result.now None c.as_slice.ensures c.requires (c.in-None.ensures.part (bytes_of self.stored)) in
+    let no : None ≡ Some (slice_index_or (parts_of r) c.args.number None) = named_here self c.args.number c.as_slice-index.result.now None c.as_slice-index.ensures c.requires (c.in_default.ensures.part (bytes_of self.stored)) in
     cc
 
-pub returns-in-Some-clause-part : goal.returns-in-Some-clause-part
-returns-in-Some-clause-part g c =
+pub returns-clause-part : goal.returns-clause-part
+returns-clause-part g c =
     let self = c.args.self.now in
     let r = read_of self in
     let is = opened self in
-    sym (some_is (named_here self c.args.number c.as_slice.result.now (Some (range_part (bytes_of self.stored) c.in-Some.range)) c.as_slice.ensures c.requires (c.in-Some.ensures.part (bytes_of self.stored))))
+    sym (some_is (named_here self c.args.number c.as_slice-index.result.now (Some (range_part (bytes_of self.stored) c.in-Some.range)) c.as_slice-index.ensures c.requires (c.in-Some.ensures.part (bytes_of self.stored))))
 
-pub returns-in-Some-clause-within : goal.returns-in-Some-clause-within
-returns-in-Some-clause-within g c =
+pub returns-clause-within : goal.returns-clause-within
+returns-clause-within g c =
     let self = c.args.self.now in
     let r = read_of self in
     let is = opened self in
     let len = length (bytes_of self.stored) in
     range_wider self.end len c.in-Some.range (omega (arith, self.end_is, data_within self.at_start (count_of r) len)) c.in-Some.ensures.within
 
-pub returns-in-Some-clause-entry : goal.returns-in-Some-clause-entry
-returns-in-Some-clause-entry g c =
+pub returns-clause-entry : goal.returns-clause-entry
+returns-clause-entry g c =
     let self = c.args.self.now in
-    ap (λ (l : List ℕ). piece_at 16 l c.args.number) (sym (c.as_slice.ensures ∙ self.index_is)) ∙ c.in-Some.ensures.entry
+    ap (λ (l : List ℕ). piece_at 16 l c.args.number) (sym (c.as_slice-index.ensures ∙ self.index_is)) ∙ c.in-Some.ensures.entry
