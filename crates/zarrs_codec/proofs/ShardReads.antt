@@ -95,16 +95,16 @@ module _ (codec : ShardingCodec) (t : CellType) (r : ShardRead) (is : IsOpen r) 
         let same : position_count own.shape ≡ position_count shared.shape = ap (λ (b : Box). position_count b.shape) share.own_is in
         omega (arith, ap (λ x. x * cell_size k) same, mul-le-mul_right (cell_size k) fewer)
 
-  module _ {B : Type 0} {b : SourceMeaning B} (n : ℕ) (lt : n < count_of r) where
-    below : n < length (parts_of r)
-    below = omega (arith, parts_len r is)
+  below : (n : ℕ) → n < count_of r → n < length (parts_of r)
+  below n lt = omega (arith, parts_len r is)
 
+  module _ {B : Type 0} {b : SourceMeaning B} (n : ℕ) (lt : n < count_of r) where
     -- why the bytes of a subchunk are not read
     pub own_refused : (own : Stored B b) (piece : Box) (e : PartError) → slice_index_or (parts_of r) n None ≡ Some (bytes_of own) → refuses_of own ≡ r.refuses
         → ((x : List ℕ) → IsTooLargeToDecode m k f r.sub piece x → ReadsLargeSubchunk m k f r.shape r.sub r.part n x)
         → RefusesPartDecoding (m.decoded k f r.sub (bytes_of own)) (IsTooLargeToDecode m k f r.sub piece (bytes_of own)) (refuses_of own) e → RefusesReads codec t r e
     own_refused own piece e there refuses large why =
-        inner_refused (m.decoded k f r.sub) (ReadsLargeSubchunk m k f r.shape r.sub r.part) (IsTooLargeToDecode m k f r.sub piece (bytes_of own)) (parts_of r) n (bytes_of own) r.refuses e below there (large (bytes_of own))
+        inner_refused (m.decoded k f r.sub) (ReadsLargeSubchunk m k f r.shape r.sub r.part) (IsTooLargeToDecode m k f r.sub piece (bytes_of own)) (parts_of r) n (bytes_of own) r.refuses e (below n lt) there (large (bytes_of own))
         (subst (λ (x : Bool). RefusesPartDecoding (m.decoded k f r.sub (bytes_of own)) (IsTooLargeToDecode m k f r.sub piece (bytes_of own)) x e) refuses why)
 
     pub piece_refused : (o : Option (Stored B b)) (piece : Box) (e : PartError) → slice_index_or (parts_of r) n None ≡ option_map bytes_of o → IfSome o (λ own. refuses_of own ≡ r.refuses)

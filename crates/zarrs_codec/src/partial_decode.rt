@@ -11,7 +11,7 @@ ghost use Rattle.zarrs_codec_chain.specs.Chunks.{HoldsPart, RefusesToDecodePart,
 ghost use Rattle.zarrs_codec_chain.specs.OpenShards.{read_of};
 ghost use Rattle.zarrs_codec_chain.specs.Places.{all_places};
 ghost use Rattle.zarrs_codec_chain.specs.ShardParts.{MeetsPart};
-ghost use Rattle.zarrs_codec_chain.specs.Stored.{MayReadAll, MayReadOf, bytes_of, refuses_of};
+ghost use Rattle.zarrs_codec_chain.specs.Stored.{MayReadOf, bytes_of, refuses_of};
 ghost use Rattle.zarrs_codec.specs.Chains.{chain_meaning, inner_chain_of, sharding_meaning};
 ghost use Rattle.zarrs_codec.specs.ShardChunks.{DecodesWhole, HasNoPieceOf, HasParts, HasPieceOf};
 ghost use Rattle.zarrs_codec.specs.ShardChunks.{IsCounted, ReadsOne, RefusesReads};
@@ -131,7 +131,7 @@ impl ShardingCodec {
     fn read_part<B: ByteSource>(
         &self,
         alloc: Global,
-        read: &ShardPart<'_, B>,
+        read: &ShardPart<'_, '_, B>,
         cell_type: &CellType,
     ) -> Result<ArrayBytes<'static>, PartError>
         requires { IsCounted cell_type.now (read_of read.now) }
@@ -158,7 +158,7 @@ impl ShardingCodec {
     fn read_subchunks<B: ByteSource>(
         &self,
         alloc: Global,
-        read: &ShardPart<'_, B>,
+        read: &ShardPart<'_, '_, B>,
         cell_type: &CellType,
         met: &ArraySubset,
     ) -> Result<ArrayBytes<'static>, PartError>
@@ -195,7 +195,7 @@ impl ShardingCodec {
     fn read_subchunk<B: ByteSource>(
         &self,
         alloc: Global,
-        read: &ShardPart<'_, B>,
+        read: &ShardPart<'_, '_, B>,
         cell_type: &CellType,
         held: RegionCells,
         indices: &[u64],
@@ -222,7 +222,7 @@ impl ShardingCodec {
     fn decode_piece<B: ByteSource>(
         &self,
         alloc: Global,
-        read: &ShardPart<'_, B>,
+        read: &ShardPart<'_, '_, B>,
         cell_type: &CellType,
         indices: &[u64],
     ) -> Result<Option<Piece>, PartError>
@@ -265,7 +265,8 @@ impl ShardingCodec {
         requires size { position_count (box_of part.now).shape * cell_size (chunk_kind chunk.now)
             < 2 ^ 64 }
         requires part { LiesInShape (box_of part.now) (shape_of chunk.now) }
-        requires may_read { MayReadAll stored.now }
+        requires may_read { MayReadOf stored.now ((chain_meaning (inner_chain_of self.now)).places
+            (chunk_kind chunk.now) (shape_of chunk.now) (box_of part.now) (bytes_of stored.now)) }
         ensures cells { IfOk result (λ made. HoldsPart (chain_meaning (inner_chain_of self.now))
             chunk.now (box_of part.now) (bytes_of stored.now) (data_of made)) }
         ensures refused { IfErr result (RefusesToDecodePart

@@ -148,7 +148,7 @@ impl ShardingCodec {
     fn read_all_into<B: ByteSource>(
         &self,
         alloc: Global,
-        read: &ShardPart<'_, B>,
+        read: &ShardPart<'_, '_, B>,
         cell_type: &CellType,
         target: &mut ArrayBytesDecodeIntoTarget<'_, '_, '_>,
     ) -> Result<(), PartError>
@@ -183,7 +183,7 @@ impl ShardingCodec {
     fn read_subchunks_into<B: ByteSource>(
         &self,
         alloc: Global,
-        read: &ShardPart<'_, B>,
+        read: &ShardPart<'_, '_, B>,
         cell_type: &CellType,
         target: &mut ArrayBytesDecodeIntoTarget<'_, '_, '_>,
     ) -> Result<(), PartError>
@@ -214,7 +214,7 @@ impl ShardingCodec {
     fn read_subchunk_into<B: ByteSource>(
         &self,
         alloc: Global,
-        read: &ShardPart<'_, B>,
+        read: &ShardPart<'_, '_, B>,
         cell_type: &CellType,
         indices: &[u64],
         target: &mut ArrayBytesDecodeIntoTarget<'_, '_, '_>,
@@ -323,7 +323,8 @@ impl ShardingCodec {
         target: &mut ArrayBytesDecodeIntoTarget<'_, '_, '_>,
     ) -> Result<(), PartError>
         requires part { LiesInShape (box_of part.now) (shape_of chunk.now) }
-        requires may_read { MayReadAll stored.now }
+        requires may_read { MayReadOf stored.now ((chain_meaning (inner_chain_of self.now)).places
+            (chunk_kind chunk.now) (shape_of chunk.now) (box_of part.now) (bytes_of stored.now)) }
         requires takes { takes_type target.old.cell_size target.old.depth (chunk_kind chunk.now)
             ≡ true }
         requires same_shape { (target_box target.old).shape ≡ (box_of part.now).shape }

@@ -73,27 +73,27 @@ impl CodecChain {
 
 /// The cells of a part, and the shard that they are written into, whose index stands at the end.
 #[derive(Drop)]
-struct ShardUpdate<'a> {
+struct ShardUpdate<'a, 'b> {
     stored: Option<&'a [u8]>,
     // Where each subchunk stands in what is stored.
     ranges: Vec<Option<SubchunkRange>>,
     subchunks: Subchunks,
     part: &'a ArraySubset,
-    bytes: &'a ArrayBytes<'a>,
+    bytes: &'a ArrayBytes<'b>,
     cell_type: &'a CellType,
     options: &'a CodecOptions,
 }
 
 impl ShardingCodec {
     /// What is done with the key of a shard, whose index stands at the end, for the cells of a part.
-    fn partial_encode_shard(
+    fn partial_encode_shard<'a, 'b>(
         &self,
         alloc: Global,
-        stored: Option<&[u8]>,
-        part: &ArraySubset,
-        bytes: &ArrayBytes<'_>,
-        chunk: &ChunkType<'_>,
-        options: &CodecOptions,
+        stored: Option<&'a [u8]>,
+        part: &'a ArraySubset,
+        bytes: &'a ArrayBytes<'b>,
+        chunk: &ChunkType<'a>,
+        options: &'a CodecOptions,
     ) -> Result<PartialWrite, CodecError>
         requires supported { (sharding_meaning self.now).encodes_partly ≡ true }
         requires dimensions { length (box_of part.now).start ≡ length (shape_of chunk.now) }
@@ -140,7 +140,7 @@ impl ShardingCodec {
     fn patch_shard(
         &self,
         alloc: Global,
-        update: &ShardUpdate<'_>,
+        update: &ShardUpdate<'_, '_>,
     ) -> Result<PartialWrite, CodecError>
         requires update { IsUpdate update.now }
         requires fits { FitsUpdate (chain_meaning (inner_chain_of self.now)) update.now }
@@ -163,7 +163,7 @@ impl ShardingCodec {
     ///
     /// # Errors
     /// `DoesNotFit` if one does not decode; `OutOfMemory` may come at any time.
-    fn test_met(&self, alloc: Global, update: &ShardUpdate<'_>) -> Result<(), CodecError>
+    fn test_met(&self, alloc: Global, update: &ShardUpdate<'_, '_>) -> Result<(), CodecError>
         requires { IsUpdate update.now }
         ensures decode { OnOk result (MeetsDecoded (chain_meaning (inner_chain_of self.now))
             update.now) }
@@ -182,7 +182,7 @@ impl ShardingCodec {
     fn test_part(
         &self,
         alloc: Global,
-        update: &ShardUpdate<'_>,
+        update: &ShardUpdate<'_, '_>,
         range: Option<SubchunkRange>,
     ) -> Result<(), CodecError>
         requires within { IsRangeWithin (length (bytes_in update.now)) range }
@@ -198,7 +198,11 @@ impl ShardingCodec {
     }
 
     /// What is done with the key, subchunk by subchunk.
-    fn patched(&self, alloc: Global, update: &ShardUpdate<'_>) -> Result<PartialWrite, CodecError>
+    fn patched(
+        &self,
+        alloc: Global,
+        update: &ShardUpdate<'_, '_>,
+    ) -> Result<PartialWrite, CodecError>
         requires update { IsUpdate update.now }
         requires fits { FitsUpdate (chain_meaning (inner_chain_of self.now)) update.now }
         ensures written { IfOk result (WritesUpdate (chain_meaning (inner_chain_of self.now))
@@ -220,7 +224,7 @@ impl ShardingCodec {
     fn changed(
         &self,
         alloc: Global,
-        update: &ShardUpdate<'_>,
+        update: &ShardUpdate<'_, '_>,
         range: Option<SubchunkRange>,
         number: u64,
     ) -> Result<Option<Option<Vec<u8>>>, CodecError>
@@ -267,7 +271,7 @@ impl ShardingCodec {
     fn held_part(
         &self,
         alloc: Global,
-        update: &ShardUpdate<'_>,
+        update: &ShardUpdate<'_, '_>,
         range: Option<SubchunkRange>,
     ) -> Result<ArrayBytes<'static>, CodecError>
         requires within { IsRangeWithin (length (bytes_in update.now)) range }

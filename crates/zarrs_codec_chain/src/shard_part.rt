@@ -19,12 +19,12 @@ use zarrs_subset::{ArraySubset, ravel_indices};
 
 /// A part that is read of a shard. Each entry of the index was tested.
 #[derive(Drop)]
-pub struct ShardPart<'s, B: ByteSource> {
+pub struct ShardPart<'s, 'p, B: ByteSource> {
     stored: Stored<'s, B>,
     at_start: bool,
     subchunks: Subchunks,
     /// The part.
-    pub part: &'s ArraySubset,
+    pub part: &'p ArraySubset,
     index: SourceBytes<'s>,
     // Where the data part begins and ends.
     start: usize,
@@ -53,7 +53,7 @@ pub struct Share {
     pub own: ArraySubset,
 }
 
-impl<'s, B: ByteSource> ShardPart<'s, B> {
+impl<'s, 'p, B: ByteSource> ShardPart<'s, 'p, B> {
     ghost use Rattle.std.specs.Prelude.{ℕ, List, None, IfErr, IfNone, IfSome, option_map, slice_index_or};
     ghost use Rattle.zarrs_codec_leaf.specs.Sources.{RefusesSource};
     ghost use Rattle.zarrs_codec_shard.specs.ShardIndex.{IsRangeWithin, range_entry, range_part};
@@ -72,11 +72,11 @@ impl<'s, B: ByteSource> ShardPart<'s, B> {
     pub fn open(
         alloc: Global,
         stored: &Stored<'s, B>,
-        part: &'s ArraySubset,
+        part: &'p ArraySubset,
         shape: &[u64],
         sub: &[u64],
         at_start: bool,
-    ) -> Result<Option<ShardPart<'s, B>>, StorageError>
+    ) -> Result<Option<ShardPart<'s, 'p, B>>, StorageError>
         requires part { LiesInShape (box_of part.now) shape.now }
         requires may_read { MayReadOf stored.now (part_places (shard_read at_start shape.now sub.now
             (box_of part.now) (bytes_of stored.now) (refuses_of stored.now))) }

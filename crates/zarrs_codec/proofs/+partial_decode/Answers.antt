@@ -144,17 +144,10 @@ sharding::ShardingCodec::decode_piece-partial_decode_inner-requires g t c κs wi
     let shape_is : c.subchunk_shape.result.now ≡ r.sub = c.subchunk_shape.ensures in
     let small = small_share c.args.self.now c.args.cell_type.now r is i n shared own share c.in-Some-2.share.shared.same_length c.requires in
     let lies = subst (LiesInShape own) (sym shape_is) share.own_lies in
-    (first_of (omega (arith, c.decreases), search rules), (search rules, (small, (lies, c.in-Some-subchunk.ensures.may_read share.meets))))
-
-pub sharding::ShardingCodec::partial_decode_inner-partial_decode_chunk-requires : goal.sharding::ShardingCodec::partial_decode_inner-partial_decode_chunk-requires
-sharding::ShardingCodec::partial_decode_inner-partial_decode_chunk-requires g t c κs within =
-    let chunk = c.args.chunk.now in
-    let inner = inner_chain_of c.args.self.now in
-    let stored = c.args.stored.now in
-    let part = box_of c.args.part.now in
-    let places = (chain_meaning inner).places (chunk_kind chunk) (shape_of chunk) part (bytes_of stored) in
-    let may = read_places stored places ((chain-lawful inner).places_inside (chunk_kind chunk) (shape_of chunk) part (bytes_of stored)) c.requires.may_read in
-    (first_of (omega (arith, c.decreases), search rules), (search rules, (c.requires.size, (c.requires.part, may))))
+    let stored = c.in-Some-subchunk.stored in
+    let shape = c.subchunk_shape.result.now in
+    let may = read_places stored (m.places k shape own (bytes_of stored)) ((chain-lawful (inner_chain_of c.args.self.now)).places_inside k shape own (bytes_of stored)) (c.in-Some-subchunk.ensures.may_read share.meets) in
+    (first_of (omega (arith, c.decreases), search rules), (search rules, (small, (lies, may))))
 
 pub sharding::ShardingCodec::read_subchunk-decode_piece-requires : goal.sharding::ShardingCodec::read_subchunk-decode_piece-requires
 sharding::ShardingCodec::read_subchunk-decode_piece-requires g t c κs within =
@@ -338,7 +331,7 @@ sharding::ShardingCodec::partial_decode_shard-read_part-requires g t c κs withi
     let r_of = λ (at : Bool) (sub : List ℕ). shard_read at (shape_of chunk) sub (box_of c.args.part.now) (bytes_of stored) (refuses_of stored) in
     let read = c.in-Some.read in
     let read_is : read_of read ≡ r_of (is_at_start (location_of x)) (sizes_of (subchunk_sizes_of x)) =
-    (rw c.in-Some.is at c.in_ok-open.ensures.opened) ∙ ap (λ (at : Bool). r_of at c.deref.result.now) at_is ∙ ap (r_of (is_at_start (location_of x))) sub_is in
+    (rw c.in-Some.is at c.in_ok-read.ensures.opened) ∙ ap (λ (at : Bool). r_of at c.deref.result.now) at_is ∙ ap (r_of (is_at_start (location_of x))) sub_is in
     let small = subst (λ (r : ShardRead). position_count r.part.shape * cell_size (chunk_kind chunk) < 2 ^ 64) (sym read_is) c.requires.size in
     (first_of (omega (arith, c.decreases), search rules), (search rules, small))
 
@@ -352,7 +345,7 @@ sharding::ShardingCodec::partial_decode_shard-returns-in-Some-clause-cells g t c
     let r_of = λ (at : Bool) (sub : List ℕ). shard_read at (shape_of chunk) sub (box_of c.args.part.now) (bytes_of stored) (refuses_of stored) in
     let read = c.in-Some.read in
     let read_is : read_of read ≡ r_of (is_at_start (location_of x)) (sizes_of (subchunk_sizes_of x)) =
-    (rw c.in-Some.is at c.in_ok-open.ensures.opened) ∙ ap (λ (at : Bool). r_of at c.deref.result.now) at_is ∙ ap (r_of (is_at_start (location_of x))) sub_is in
+    (rw c.in-Some.is at c.in_ok-read.ensures.opened) ∙ ap (λ (at : Bool). r_of at c.deref.result.now) at_is ∙ ap (r_of (is_at_start (location_of x))) sub_is in
     IfOk-weaker c.read_part.result _ _
     (λ made has. subst (λ (r : ShardRead). DecodesPart (chunk_kind chunk) r.shape r.part (shard_decoded x chunk.cell_type.now r) (data_of made)) read_is (parts_decode x chunk.cell_type.now (read_of read) (opened read) (data_of made) has))
     c.read_part.ensures.all
@@ -367,20 +360,20 @@ sharding::ShardingCodec::partial_decode_shard-returns-in-Some-clause-refused g t
     let r_of = λ (at : Bool) (sub : List ℕ). shard_read at (shape_of chunk) sub (box_of c.args.part.now) (bytes_of stored) (refuses_of stored) in
     let read = c.in-Some.read in
     let read_is : read_of read ≡ r_of (is_at_start (location_of x)) (sizes_of (subchunk_sizes_of x)) =
-    (rw c.in-Some.is at c.in_ok-open.ensures.opened) ∙ ap (λ (at : Bool). r_of at c.deref.result.now) at_is ∙ ap (r_of (is_at_start (location_of x))) sub_is in
+    (rw c.in-Some.is at c.in_ok-read.ensures.opened) ∙ ap (λ (at : Bool). r_of at c.deref.result.now) at_is ∙ ap (r_of (is_at_start (location_of x))) sub_is in
     IfErr-weaker c.read_part.result _ _
     (λ e why. subst (λ (r : ShardRead). RefusesShard x chunk.cell_type.now r e) read_is (subchunks_refused x chunk.cell_type.now (read_of read) (opened read) e why))
     c.read_part.ensures.refused
 
-pub sharding::ShardingCodec::partial_decode_shard-returns-in-None-clause-refused : goal.sharding::ShardingCodec::partial_decode_shard-returns-in-None-clause-refused
-sharding::ShardingCodec::partial_decode_shard-returns-in-None-clause-refused g t c =
+pub sharding::ShardingCodec::partial_decode_shard-returns-clause-refused : goal.sharding::ShardingCodec::partial_decode_shard-returns-clause-refused
+sharding::ShardingCodec::partial_decode_shard-returns-clause-refused g t c =
     let x = c.args.self.now in
     let stored = c.args.stored.now in
     let chunk = c.args.chunk.now in
     let at_is : c.is_at_start-at_start.result ≡ is_at_start (location_of x) = c.is_at_start-at_start.ensures ∙ ap is_at_start c.index_location.ensures in
     let sub_is : c.deref.result.now ≡ sizes_of (subchunk_sizes_of x) = c.deref.ensures.value ∙ c.in_ok-sub.ensures in
     let r_of = λ (at : Bool) (sub : List ℕ). shard_read at (shape_of chunk) sub (box_of c.args.part.now) (bytes_of stored) (refuses_of stored) in
-    let none = rw c.in-None.is at c.in_ok-open.ensures.none in
+    let none = rw c.in-None.is at c.in_ok-read.ensures.none in
     let at = is_at_start (location_of x) in
     let m : ChainMeaning = chain_meaning (inner_chain_of x) in
     let k = chunk_kind chunk in

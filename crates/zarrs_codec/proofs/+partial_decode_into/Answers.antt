@@ -115,7 +115,6 @@ sharding::ShardingCodec::read_subchunk_into-read_piece-requires g t c κs within
     let own_is : own ≡ moved_box region r.part shared = c.in_ok-own.ensures in
     let stored = c.subchunk-stored.result in
     let bytes_are = c.subchunk-stored.ensures.bytes in
-    let new = c.read_piece.new.target in
     let lies = subst (LiesInShape piece) (sym shape_is) share.own_lies in
     let own_lies = subst (λ (b : Box). LiesInBox b region) (sym own_is) (moved_lies region r.part shared own_long is.long shared_long c.requires.same_shape share.shared_lies) in
     let same_shape : own.shape ≡ piece.shape = ap (λ (b : Box). b.shape) own_is ∙ sym (ap (λ (b : Box). b.shape) share.own_is) in
@@ -269,18 +268,13 @@ sharding::ShardingCodec::read_piece_into-returns-clause-whole g t c =
 
 pub sharding::ShardingCodec::read_piece_into-partial_decode_inner_into-requires : goal.sharding::ShardingCodec::read_piece_into-partial_decode_inner_into-requires
 sharding::ShardingCodec::read_piece_into-partial_decode_inner_into-requires g t c κs within =
-    let may = rw c.in-Some.is at c.requires.may_read in
-    (first_of (omega (arith, c.decreases), search rules), (search rules, (c.requires.piece, (may, (c.requires.takes, c.requires.same_shape)))))
-
-pub sharding::ShardingCodec::partial_decode_inner_into-partial_decode_chunk_into-requires : goal.sharding::ShardingCodec::partial_decode_inner_into-partial_decode_chunk_into-requires
-sharding::ShardingCodec::partial_decode_inner_into-partial_decode_chunk_into-requires g t c κs within =
     let chunk = c.args.chunk.now in
     let inner = inner_chain_of c.args.self.now in
-    let stored = c.args.stored.now in
-    let part = box_of c.args.part.now in
-    let places = (chain_meaning inner).places (chunk_kind chunk) (shape_of chunk) part (bytes_of stored) in
-    let may = read_places stored places ((chain-lawful inner).places_inside (chunk_kind chunk) (shape_of chunk) part (bytes_of stored)) c.requires.may_read in
-    (first_of (omega (arith, c.decreases), search rules), (search rules, (c.requires.part, (may, (c.requires.takes, c.requires.same_shape)))))
+    let stored = c.in-Some.stored.now in
+    let piece = box_of c.args.piece.now in
+    let all = rw c.in-Some.is at c.requires.may_read in
+    let may = read_places stored ((chain_meaning inner).places (chunk_kind chunk) (shape_of chunk) piece (bytes_of stored)) ((chain-lawful inner).places_inside (chunk_kind chunk) (shape_of chunk) piece (bytes_of stored)) all in
+    (first_of (omega (arith, c.decreases), search rules), (search rules, (c.requires.piece, (may, (c.requires.takes, c.requires.same_shape)))))
 
 pub sharding::ShardingCodec::read_subchunks_into-returns-in_default-clause-all : goal.sharding::ShardingCodec::read_subchunks_into-returns-in_default-clause-all
 sharding::ShardingCodec::read_subchunks_into-returns-in_default-clause-all g t c =
@@ -404,7 +398,7 @@ sharding::ShardingCodec::read_all_into-loop-number-init g t c =
 
 pub sharding::ShardingCodec::read_all_into-subset_in-requires-clause-number : goal.sharding::ShardingCodec::read_all_into-subset_in-requires-clause-number
 sharding::ShardingCodec::read_all_into-subset_in-requires-clause-number g t c =
-    omega (arith, c.count.ensures)
+    omega (arith, c.count-number-end.ensures)
 
 pub sharding::ShardingCodec::read_all_into-subset_in-requires-clause-shape : goal.sharding::ShardingCodec::read_all_into-subset_in-requires-clause-shape
 sharding::ShardingCodec::read_all_into-subset_in-requires-clause-shape g t c =
@@ -412,7 +406,7 @@ sharding::ShardingCodec::read_all_into-subset_in-requires-clause-shape g t c =
 
 pub sharding::ShardingCodec::read_all_into-subchunk-stored-requires : goal.sharding::ShardingCodec::read_all_into-subchunk-stored-requires
 sharding::ShardingCodec::read_all_into-subchunk-stored-requires g t c =
-    omega (arith, c.count.ensures)
+    omega (arith, c.count-number-end.ensures)
 
 pub sharding::ShardingCodec::read_all_into-read_piece-requires : goal.sharding::ShardingCodec::read_all_into-read_piece-requires
 sharding::ShardingCodec::read_all_into-read_piece-requires g t c κs within =
@@ -434,8 +428,8 @@ sharding::ShardingCodec::read_all_into-read_piece-requires g t c κs within =
     let l = c.loop-number.target in
     let i = c.loop-number.invariant in
     let n = c.loop-number.number in
-    let r_lt : n < count_of r = omega (arith, c.count.ensures) in
-    let n_lt : n < subchunk_count region.shape r.sub = omega (arith, c.count.ensures, count_is) in
+    let r_lt : n < count_of r = omega (arith, c.count-number-end.ensures) in
+    let n_lt : n < subchunk_count region.shape r.sub = omega (arith, c.count-number-end.ensures, count_is) in
     let own = box_of c.in_ok-own.own in
     let own_is : own ≡ own_box region r.sub n = c.in_ok-own.ensures in
     let stored = c.subchunk-stored.result in
@@ -443,7 +437,6 @@ sharding::ShardingCodec::read_all_into-read_piece-requires g t c κs within =
     let piece = box_of c.in_ok-piece.piece in
     let piece_is : piece ≡ box_at_origin c.subchunk_shape-shape.result.now = search rules in
     let here : piece ≡ box_at_origin r.sub = piece_is ∙ ap box_at_origin shape_is in
-    let new = c.read_piece.new.target in
     let piece_lies : LiesInShape piece c.subchunk_shape-shape.result.now = subst (λ (b : Box). LiesInShape b c.subchunk_shape-shape.result.now) (sym piece_is) (origin_lies c.subchunk_shape-shape.result.now) in
     let own_lies =
     subst (λ (b : Box). LiesInBox b (target_box l)) (sym own_is)
@@ -472,8 +465,8 @@ sharding::ShardingCodec::read_all_into-returns-in_err-read_piece-clause-kept g t
     let l = c.loop-number.target in
     let i = c.loop-number.invariant in
     let n = c.loop-number.number in
-    let r_lt : n < count_of r = omega (arith, c.count.ensures) in
-    let n_lt : n < subchunk_count region.shape r.sub = omega (arith, c.count.ensures, count_is) in
+    let r_lt : n < count_of r = omega (arith, c.count-number-end.ensures) in
+    let n_lt : n < subchunk_count region.shape r.sub = omega (arith, c.count-number-end.ensures, count_is) in
     let own = box_of c.in_ok-own.own in
     let own_is : own ≡ own_box region r.sub n = c.in_ok-own.ensures in
     let stored = c.subchunk-stored.result in
@@ -505,8 +498,8 @@ sharding::ShardingCodec::read_all_into-returns-in_err-read_piece-clause-refused 
     let l = c.loop-number.target in
     let i = c.loop-number.invariant in
     let n = c.loop-number.number in
-    let r_lt : n < count_of r = omega (arith, c.count.ensures) in
-    let n_lt : n < subchunk_count region.shape r.sub = omega (arith, c.count.ensures, count_is) in
+    let r_lt : n < count_of r = omega (arith, c.count-number-end.ensures) in
+    let n_lt : n < subchunk_count region.shape r.sub = omega (arith, c.count-number-end.ensures, count_is) in
     let own = box_of c.in_ok-own.own in
     let own_is : own ≡ own_box region r.sub n = c.in_ok-own.ensures in
     let stored = c.subchunk-stored.result in
@@ -542,8 +535,8 @@ sharding::ShardingCodec::read_all_into-loop-number-preserved g t c =
     let l = c.loop-number.target in
     let i = c.loop-number.invariant in
     let n = c.loop-number.number in
-    let r_lt : n < count_of r = omega (arith, c.count.ensures) in
-    let n_lt : n < subchunk_count region.shape r.sub = omega (arith, c.count.ensures, count_is) in
+    let r_lt : n < count_of r = omega (arith, c.count-number-end.ensures) in
+    let n_lt : n < subchunk_count region.shape r.sub = omega (arith, c.count-number-end.ensures, count_is) in
     let own = box_of c.in_ok-own.own in
     let own_is : own ≡ own_box region r.sub n = c.in_ok-own.ensures in
     let stored = c.subchunk-stored.result in
@@ -597,7 +590,7 @@ sharding::ShardingCodec::read_all_into-returns-clause-cells g t c =
     (all_into parent region r.sub cut long lies k t.cell_size fixed_is dec f (parts_of r) one r.at_start r.encoded fit (λ b. refl) parts_are
     (λ b cs decodes. law.decoded_len k f r.sub b cs decodes) (λ b cs decodes. law.decoded_values k f r.sub b cs decodes)
     (fill-value k c.args.cell_type.now.fill_value c.args.cell_type.now.filled) (data_of_target l)
-    (λ j lt. i.parts j (omega (arith, c.count.ensures, count_is))))
+    (λ j lt. i.parts j (omega (arith, c.count-number-end.ensures, count_is))))
 
 pub sharding::ShardingCodec::read_all_into-returns-then-not-branch-clause-refused : goal.sharding::ShardingCodec::read_all_into-returns-then-not-branch-clause-refused
 sharding::ShardingCodec::read_all_into-returns-then-not-branch-clause-refused g t c =
@@ -610,7 +603,7 @@ sharding::ShardingCodec::read_all_into-returns-then-not-branch-clause-refused g 
     let t = c.args.target.now in
     let region = target_box t in
     let shape_is : c.subchunk_shape-shape.result.now ≡ r.sub = c.subchunk_shape-shape.ensures in
-    sharded_unfit c.args.self.now c.args.cell_type.now r (ap (m.fits k) (sym shape_is) ∙ sym c.in_ok-fits_chunk.ensures ∙ c.if-not-branch.true)
+    sharded_unfit c.args.self.now c.args.cell_type.now r is (ap (m.fits k) (sym shape_is) ∙ sym c.in_ok-fits_chunk.ensures ∙ c.if-not-branch.true)
 
 pub sharding::ShardingCodec::partial_decode_shard_into-open-requires-clause-may_read : goal.sharding::ShardingCodec::partial_decode_shard_into-open-requires-clause-may_read
 sharding::ShardingCodec::partial_decode_shard_into-open-requires-clause-may_read g t c =

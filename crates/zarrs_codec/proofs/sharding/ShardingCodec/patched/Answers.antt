@@ -1,9 +1,9 @@
 use Rattle.zarrs_data_type.specs.CellTypes.{filling, kind_of}
-use Rattle.std.proofs.Common.{rules, arith, ◌≡◌, ◌<◌, None, Some, is_some, get_or, length, option_map, refl, sym, ap, subst, ◌∙◌}
+use Rattle.std.proofs.Common.{rules, arith, ◌≡◌, ◌<◌, [], ℕ, None, Some, is_some, get_or, length, option_map, refl, sym, ap, subst, ◌∙◌}
 use Rattle.zarrs_data_type.specs.ArrayData.{data_of}
 use Rattle.zarrs_subset.specs.Regions.{box_of}
 use Rattle.zarrs_codec_shard.specs.ShardIndex.{range_part}
-use Rattle.zarrs_codec_shard.specs.ShardPatches.{change_of}
+use Rattle.zarrs_codec_shard.specs.ShardPatches.{IsPatching, change_of}
 use Rattle.zarrs_codec_shard.specs.SubchunkData.{chunk_shape, subchunk_shape}
 use Rattle.zarrs_codec_chain.specs.Chain.{ChainMeaning}
 use Rattle.zarrs_codec_chain.specs.Options.{stores_empty_chunks}
@@ -28,7 +28,8 @@ loop-number-init c =
     let stored = stored_in u in
     let ranges = u.ranges.items in
     let parts = parts_in u in
-    changes_started m empty k f s sub part d stored parts (length ranges) c.in_ok-patch.patch (c.in_ok-patch.ensures parts)
+    let count_is : c.len-count.result ≡ length ranges = first_of (search rules, omega (arith, c.len-count.ensures, u.ranges.ok.0)) in
+    changes_started m empty k f s sub part d stored parts (length ranges) c.in_ok-patch.patch (subst (λ (n : ℕ). IsPatching n stored parts c.in_ok-patch.patch []) count_is (c.in_ok-patch.ensures parts))
 
 pub push-requires : goal.push-requires
 push-requires c =
