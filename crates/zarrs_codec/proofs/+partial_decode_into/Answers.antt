@@ -270,7 +270,7 @@ pub sharding::ShardingCodec::read_piece_into-partial_decode_inner_into-requires 
 sharding::ShardingCodec::read_piece_into-partial_decode_inner_into-requires g t c κs within =
     let chunk = c.args.chunk.now in
     let inner = inner_chain_of c.args.self.now in
-    let stored = c.in-Some.stored.now in
+    let stored = c.in-Some.stored in
     let piece = box_of c.args.piece.now in
     let all = rw c.in-Some.is at c.requires.may_read in
     let may = read_places stored ((chain_meaning inner).places (chunk_kind chunk) (shape_of chunk) piece (bytes_of stored)) ((chain-lawful inner).places_inside (chunk_kind chunk) (shape_of chunk) piece (bytes_of stored)) all in
