@@ -292,7 +292,7 @@ impl<G: ChunkGridTraits, K: ChunkKeyEncodingTraits, C: ChainTraits> ArrayLayout<
     /// Returns the cells of the bytes of the chunk with these indices. They may be lent by these bytes.
     ///
     /// # Errors
-    /// In this order: those of `chunk`; E4 if the bytes do not decode, E8 if they leave out cells and as many fill values
+    /// In this order: those of `chunk_extents`; E4 if the bytes do not decode, E8 if they leave out cells and as many fill values
     /// as the chunk has cells have more bytes than a `usize` counts; which comes if both hold is open. E9 may come at any
     /// time.
     #[inline(always)]
@@ -324,7 +324,7 @@ impl<G: ChunkGridTraits, K: ChunkKeyEncodingTraits, C: ChainTraits> ArrayLayout<
     /// Returns the cells of the chunk with these indices if it is absent.
     ///
     /// # Errors
-    /// In this order: those of `chunk`; E8 if that many fill values have more bytes than a `usize` counts. E9 may come
+    /// In this order: those of `chunk_extents`; E8 if that many fill values have more bytes than a `usize` counts. E9 may come
     /// at any time.
     pub fn fill(
         &self,
