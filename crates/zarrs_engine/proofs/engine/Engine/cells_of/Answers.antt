@@ -22,7 +22,7 @@ returns-in_err-data-in-Some-clause-refused g c =
     let encoded = c.deref.result.now in
     let at = ap Some c.deref.ensures ∙ sym c.in-Some.is ∙ c.requires.stored in
     let why = bytes_refused_then layout true index encoded state (refusal_of c.in_err-data-in-Some.field-0.0) c.requires.long c.requires.asked at c.in_err-data-in-Some.ensures.refused in
-    err_kept c.from_residual-in_err-data-in-Some.result c.in_err-data-in-Some.field-0.0 (λ (e : ArrayError). RefusesChunkRead layout (length_refusal layout index) true index state (refusal_of e)) c.from_residual-in_err-data-in-Some.ensures.1 why
+    err_kept c.from_residual.result c.in_err-data-in-Some.field-0.0 (λ (e : ArrayError). RefusesChunkRead layout (length_refusal layout index) true index state (refusal_of e)) c.from_residual.ensures.1 why
 
 pub returns-in_ok-into_owned-in-Some-clause-cells : goal.returns-in_ok-into_owned-in-Some-clause-cells
 returns-in_ok-into_owned-in-Some-clause-cells g c =

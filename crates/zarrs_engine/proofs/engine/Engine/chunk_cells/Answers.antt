@@ -1,4 +1,4 @@
-use Rattle.std.proofs.Common.{rules}
+use Rattle.std.proofs.Common.{true, rules}
 use Rattle.zarrs_chunk_grid.proofs.Chunks.{box_is_there}
 use Rattle.std.proofs.lemmas.Bool.{false≢true}
 use Rattle.zarrs_engine.specs.Engine.{layout_of}

@@ -1,4 +1,5 @@
 use Rattle.std.proofs.Common.{option_map, rules, subst, sym}
+use Rattle.std.proofs.lemmas.Result.{err_from_is_err_and}
 use Rattle.zarrs_subset.specs.Regions.{box_of}
 use Rattle.zarrs_data_type.specs.ArrayData.{data_of}
 use Rattle.zarrs_codec_chain.specs.Options.{stores_empty_chunks}
@@ -25,11 +26,11 @@ returns-in_err-put g c =
     let old = g.S.ReadableStorageTraits.state c.args.self.now.storage in
     let new = g.S.ReadableStorageTraits.state c.put.new.self.storage in
     let e = c.in_err-put.field-0.0 in
-    let value = c.in_ok-value.ensures in
-    let v = value.value in
-    let why = put_leaves layout keep region held index value.fit v.made old v.updated new (refusal_of_storage e) v.accepted c.in_err-put.ensures.refused in
+    let why = put_leaves layout keep region held index c.in_ok-value.ensures.fit c.in_ok-value.ensures.value.made old c.in_ok-value.ensures.value.updated new (refusal_of_storage e)
+    c.in_ok-value.ensures.value.accepted c.in_err-put.ensures.refused in
     let said = subst (λ (r : Refusal). LeavesPart layout keep region held index r old new) (sym (storage_said e)) why in
-    search (rules, said)
+    let p = err_from_is_err_and c.from_residual-in_err-put.result c.from_residual-in_err-put.ensures.1 in
+    rw (p.1, p.2) (record { done = tt; refused = said; layout_kept = c.in_err-put.ensures.layout_kept })
 
 pub returns : goal.returns
 returns g c =
