@@ -1,3 +1,4 @@
+pub mod PartStores
 pub mod Engine
 pub mod Encoded
 pub mod Into

@@ -36,14 +36,15 @@ pub struct ArrayLayout<G: ChunkGridTraits, K: ChunkKeyEncodingTraits, C: ChainTr
             cell_type.fill_value) },
 }
 
-/// The box of a chunk, and the number of its cells.
+/// A chunk that a call is about. What is made of its indices is made once.
 #[derive(Debug, Drop)]
-pub struct Chunk {
-    /// The box.
+pub struct Chunk<'a> {
+    /// Its indices.
+    pub indices: &'a [u64],
+    /// The key of its value.
+    pub key: StoreKey,
+    /// Its box.
     pub region: ArraySubset,
-    /// The number of its positions.
-    pub count: u64,
-    ghost counted: { count ≡ position_count (box_of region).shape },
 }
 
 impl<G: ChunkGridTraits, K: ChunkKeyEncodingTraits, C: ChainTraits> ArrayLayout<G, K, C> {
@@ -51,14 +52,17 @@ impl<G: ChunkGridTraits, K: ChunkKeyEncodingTraits, C: ChainTraits> ArrayLayout<
     ghost use Rattle.std.specs.Prelude.{Bool, List, ℕ, option_map, replicate};
     ghost use Rattle.std.specs.Option.{option_or};
     ghost use Rattle.zarrs_subset.specs.Regions.{box_at_origin};
-    ghost use Rattle.std.specs.Prelude.{IfOk, IfErr, OnOk, IfSome, IfNone, OnSome, IsSomeAnd, IsOkUnless};
+    ghost use Rattle.std.specs.Prelude.{IfOk, IfErr, OnOk, IfSome, IfNone, OnSome, IsSome, IsSomeAnd};
+    ghost use Rattle.std.specs.Prelude.{IsOkUnless};
     ghost use Rattle.zarrs_chunk_grid.specs.Grids.{box_at};
     ghost use Rattle.zarrs_data_type.specs.Kind.{cell_size};
     ghost use Rattle.zarrs_data_type.specs.ArrayData.{data_of};
     ghost use Rattle.zarrs_data_type.specs.Cells.{cells, HasCells};
     ghost use Rattle.zarrs_codec_chain.specs.Options.{stores_empty_chunks};
+    ghost use Rattle.zarrs_engine_layout.specs.Chunks.{IsChunk};
     ghost use Rattle.zarrs_engine_layout.specs.Layouts.{layout_meaning};
     ghost use Rattle.zarrs_engine_calls.specs.Content.{decoded_cells};
+    ghost use Rattle.zarrs_engine_calls.specs.ArgumentRefusals.{chunk_refusal};
     ghost use Rattle.zarrs_engine_calls.specs.Refusals.{RefusesBy, refusal_of, is_too_large};
     ghost use Rattle.zarrs_engine_calls.specs.Refusals.{box_refusal, data_refusal, read_refusal};
     ghost use Rattle.zarrs_engine_calls.specs.Refusals.{is_left_out};
@@ -90,37 +94,44 @@ impl<G: ChunkGridTraits, K: ChunkKeyEncodingTraits, C: ChainTraits> ArrayLayout<
     /// Returns the chunk with these indices.
     ///
     /// # Errors
-    /// In this order: E3 for indices without a chunk; E8 for a chunk of more bytes than a `usize` counts. E9 may come
-    /// at any time.
-    pub fn chunk(&self, alloc: Global, chunk_indices: &[u64]) -> Result<Chunk, ArrayError>
-        ensures region { IfOk result (λ chunk. box_of chunk.region
-            ≡ box_at (G.grid self.now.grid) chunk_indices.now) }
-        ensures accepted { OnOk result (box_refusal (layout_meaning self.now) chunk_indices.now
-            ≡ None) }
+    /// E3 for another number of indices than dimensions, or indices without a chunk. E9 may come at any time.
+    #[inline(always)]
+    pub fn chunk<'a>(
+        &self,
+        alloc: Global,
+        chunk_indices: &'a [u64],
+    ) -> Result<Chunk<'a>, ArrayError>
+        ensures chunk { IfOk result (λ chunk. IsChunk (layout_meaning self.now) chunk) }
+        ensures indices { IfOk result (λ chunk. chunk.indices.now ≡ chunk_indices.now) }
+        ensures accepted { OnOk result
+            (chunk_refusal (layout_meaning self.now) chunk_indices.now ≡ None) }
         ensures refused { IfErr result
-            (λ e. RefusesBy (box_refusal (layout_meaning self.now) chunk_indices.now)
+            (λ e. RefusesBy (chunk_refusal (layout_meaning self.now) chunk_indices.now)
             (refusal_of e)) }
     {
         let region = self.chunk_box(alloc, chunk_indices)?;
-        match self.cell_count(&region) {
-            Some(count) => Ok(Chunk { region, count }),
-            None => Err(ArrayError::SizeOverflow),
-        }
+        let key = self.chunk_key(alloc, chunk_indices)?;
+        Ok(Chunk {
+            indices: chunk_indices,
+            key,
+            region,
+        })
     }
 
-    /// Returns what is to be present at the key of the chunk with this data: its bytes, or nothing if empty chunks are
+    /// Returns what is to be present at the key of the chunk with these cells: their bytes, or nothing if empty chunks are
     /// not kept and each cell is the fill value's.
     ///
     /// # Errors
-    /// In this order: E4 for data that is not one cell for each position, each a value of the data type, or that the
-    /// chain does not take; E8 if the bytes pass a size. E9 may come at any time.
+    /// In this order: E4 if the chain does not take the chunk; E8 if the bytes pass a size. E9 may come at any time.
     pub fn value_of(
         &self,
         alloc: Global,
-        chunk: &Chunk,
+        chunk: &Chunk<'_>,
         chunk_data: &ArrayBytes<'_>,
         options: &CodecOptions,
     ) -> Result<Option<Vec<u8>>, ArrayError>
+        requires { HasCells (layout_meaning self.now).kind (data_of chunk_data.now)
+            (position_count (box_of chunk.now.region).shape) }
         ensures value { IfOk result
             (λ value. HasValue (layout_meaning self.now) (stores_empty_chunks options.now)
             (box_of chunk.now.region) (data_of chunk_data.now) (option_map (λ v. v.items) value)) }
@@ -133,20 +144,14 @@ impl<G: ChunkGridTraits, K: ChunkKeyEncodingTraits, C: ChainTraits> ArrayLayout<
             (stores_empty_chunks options.now) (box_of chunk.now.region).shape
             (cells (layout_meaning self.now).kind (data_of chunk_data.now))) (refusal_of e)) }
     {
-        self.value_in(
-            alloc,
-            chunk.region.shape(),
-            chunk.count,
-            chunk_data,
-            options,
-        )
+        self.value_in(alloc, chunk.region.shape(), chunk_data, options)
     }
 
-    /// Returns what `value_of` returns for the chunk with these indices.
+    /// Returns what `value_of` returns for the chunk with these indices, of data that may be no cells of it.
     ///
     /// # Errors
-    /// In this order: E3 for indices without a chunk; E8 for a chunk of more bytes than a `usize` counts; those of
-    /// `value_of`. E9 may come at any time.
+    /// In this order: E3 for indices without a chunk; E8 for a chunk of more bytes than a `usize` counts; E4 for data that
+    /// is not one cell for each position, each a value of the data type; those of `value_of`. E9 may come at any time.
     pub fn chunk_value(
         &self,
         alloc: Global,
@@ -171,28 +176,24 @@ impl<G: ChunkGridTraits, K: ChunkKeyEncodingTraits, C: ChainTraits> ArrayLayout<
             (cells (layout_meaning self.now).kind (data_of chunk_data.now)))) (refusal_of e)) }
     {
         let chunk = self.chunk_extents(alloc, chunk_indices)?;
-        self.value_in(
-            alloc,
-            chunk.shape.as_slice(),
-            chunk.count,
-            chunk_data,
-            options,
-        )
+        self.check_count(chunk.count, chunk_data)?;
+        self.value_in(alloc, chunk.shape.as_slice(), chunk_data, options)
     }
 
-    /// Returns what `value_of` returns for a chunk of this shape, which has so many cells.
+    /// Returns what `value_of` returns for a chunk of this shape.
     ///
     /// # Errors
     /// Those of `value_of`.
+    #[inline(always)]
     fn value_in(
         &self,
         alloc: Global,
         shape: &[u64],
-        count: u64,
         chunk_data: &ArrayBytes<'_>,
         options: &CodecOptions,
     ) -> Result<Option<Vec<u8>>, ArrayError>
-        requires { count ≡ position_count shape.now }
+        requires { HasCells (layout_meaning self.now).kind (data_of chunk_data.now)
+            (position_count shape.now) }
         ensures value { IfOk result
             (λ value. HasValue (layout_meaning self.now) (stores_empty_chunks options.now)
             (box_at_origin shape.now) (data_of chunk_data.now) (option_map (λ v. v.items) value)) }
@@ -204,7 +205,7 @@ impl<G: ChunkGridTraits, K: ChunkKeyEncodingTraits, C: ChainTraits> ArrayLayout<
             (stores_empty_chunks options.now) shape.now
             (cells (layout_meaning self.now).kind (data_of chunk_data.now))) (refusal_of e)) }
     {
-        if self.leaves_out(count, chunk_data, options)? {
+        if self.leaves_out(chunk_data, options) {
             return Ok(None);
         }
         let chunk = ChunkType {
@@ -223,10 +224,12 @@ impl<G: ChunkGridTraits, K: ChunkKeyEncodingTraits, C: ChainTraits> ArrayLayout<
     pub fn value_of_owned(
         &self,
         alloc: Global,
-        chunk: &Chunk,
+        chunk: &Chunk<'_>,
         chunk_data: ArrayBytes<'_>,
         options: &CodecOptions,
     ) -> Result<Option<Vec<u8>>, ArrayError>
+        requires { HasCells (layout_meaning self.now).kind (data_of chunk_data)
+            (position_count (box_of chunk.now.region).shape) }
         ensures value { IfOk result
             (λ value. HasValue (layout_meaning self.now) (stores_empty_chunks options.now)
             (box_of chunk.now.region) (data_of chunk_data.entry)
@@ -240,7 +243,7 @@ impl<G: ChunkGridTraits, K: ChunkKeyEncodingTraits, C: ChainTraits> ArrayLayout<
             (stores_empty_chunks options.now) (box_of chunk.now.region).shape
             (cells (layout_meaning self.now).kind (data_of chunk_data.entry))) (refusal_of e)) }
     {
-        if self.leaves_out(chunk.count, &chunk_data, options)? {
+        if self.leaves_out(&chunk_data, options) {
             return Ok(None);
         }
         let chunk = ChunkType {
@@ -251,23 +254,14 @@ impl<G: ChunkGridTraits, K: ChunkKeyEncodingTraits, C: ChainTraits> ArrayLayout<
         Ok(Some(encoded))
     }
 
-    /// Returns whether nothing is to be present at the key of a chunk of so many cells with this data: empty chunks are
-    /// not kept, and each cell is the fill value's.
+    /// Refuses data that is not so many cells, each a value of the data type.
     ///
     /// # Errors
-    /// E4 for data that is not so many cells, each a value of the data type.
-    fn leaves_out(
-        &self,
-        count: u64,
-        chunk_data: &ArrayBytes<'_>,
-        options: &CodecOptions,
-    ) -> Result<bool, ArrayError>
+    /// E4 for such data.
+    #[inline(always)]
+    fn check_count(&self, count: u64, chunk_data: &ArrayBytes<'_>) -> Result<(), ArrayError>
         ensures cells { OnOk result (HasCells (layout_meaning self.now).kind (data_of chunk_data.now)
             count) }
-        ensures left { IfOk result
-            (λ left. IsSomeAnd (cells (layout_meaning self.now).kind (data_of chunk_data.now))
-            (λ cs. left ≡ is_left_out (layout_meaning self.now) (stores_empty_chunks options.now)
-            cs)) }
         ensures refused { IfErr result (λ e. (keep : Bool) (shape : List ℕ)
             → position_count shape ≡ count → data_refusal (layout_meaning self.now) keep shape
             (cells (layout_meaning self.now).kind (data_of chunk_data.now)) ≡ Some (refusal_of e)) }
@@ -276,17 +270,29 @@ impl<G: ChunkGridTraits, K: ChunkKeyEncodingTraits, C: ChainTraits> ArrayLayout<
             let misfit = self.misfit_of(chunk_data, count);
             return Err(ArrayError::CodecError(CodecError::DoesNotFit(misfit)));
         }
+        Ok(())
+    }
+
+    /// Returns whether nothing is to be present at the key of a chunk with these cells: empty chunks are not kept, and
+    /// each cell is the fill value's.
+    #[inline(always)]
+    fn leaves_out(&self, chunk_data: &ArrayBytes<'_>, options: &CodecOptions) -> bool
+        requires { IsSome (cells (layout_meaning self.now).kind (data_of chunk_data.now)) }
+        ensures { IsSomeAnd (cells (layout_meaning self.now).kind (data_of chunk_data.now))
+            (λ cs. result ≡ is_left_out (layout_meaning self.now)
+            (stores_empty_chunks options.now) cs) }
+    {
         let CellType {
             data_type,
             fill_value,
         } = &self.cell_type;
-        Ok(!options.store_empty_chunks() && chunk_data.is_fill_value(data_type, fill_value))
+        !options.store_empty_chunks() && chunk_data.is_fill_value(data_type, fill_value)
     }
 
     /// Returns the cells of the bytes of the chunk with these indices. They may be lent by these bytes.
     ///
     /// # Errors
-    /// In this order: those of `chunk`; E4 if the bytes do not decode, E8 if they leave out cells and as many fill values
+    /// In this order: those of `chunk_extents`; E4 if the bytes do not decode, E8 if they leave out cells and as many fill values
     /// as the chunk has cells have more bytes than a `usize` counts; which comes if both hold is open. E9 may come at any
     /// time.
     #[inline(always)]
@@ -318,7 +324,7 @@ impl<G: ChunkGridTraits, K: ChunkKeyEncodingTraits, C: ChainTraits> ArrayLayout<
     /// Returns the cells of the chunk with these indices if it is absent.
     ///
     /// # Errors
-    /// In this order: those of `chunk`; E8 if that many fill values have more bytes than a `usize` counts. E9 may come
+    /// In this order: those of `chunk_extents`; E8 if that many fill values have more bytes than a `usize` counts. E9 may come
     /// at any time.
     pub fn fill(
         &self,

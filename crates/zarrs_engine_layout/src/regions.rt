@@ -90,6 +90,7 @@ impl<G: ChunkGridTraits, K: ChunkKeyEncodingTraits, C: ChainTraits> ArrayLayout<
     ///
     /// # Errors
     /// E8 if they have more bytes than a `usize` counts. E9 may come at any time.
+    #[inline(always)]
     pub(crate) fn fill_cells(
         &self,
         alloc: Global,

@@ -60,6 +60,7 @@ impl StoredValue {
     }
 
     /// Returns the bytes. They are copied where they cannot be shared.
+    #[inline(always)]
     pub(crate) fn share(&self, alloc: Global) -> Result<Bytes, AllocError>
         ensures { IfOk result (λ bytes. bytes ≡ self.now) }
     {

@@ -6,6 +6,7 @@ use zarrs_codec_chain::{ChainTraits, CodecOptions};
 use zarrs_codec_shard::PartialWrite;
 use zarrs_data_type::ArrayBytes;
 use zarrs_engine_calls::ArrayError;
+use zarrs_engine_layout::Chunk;
 use zarrs_keys::ChunkKeyEncodingTraits;
 use zarrs_storage::{StorageError, StoreKey, WritableStorageTraits};
 use zarrs_subset::{ArraySubset, ArraySubsetError, lies_in_box};
@@ -16,35 +17,33 @@ impl<
     K: ChunkKeyEncodingTraits,
     C: ChainTraits,
 > Engine<S, G, K, C> {
-    ghost use Rattle.std.specs.Prelude.{◌≡◌, true, false, [], ◌∷◌, ◌&&◌, length, Option, None, Some};
-    ghost use Rattle.std.specs.Prelude.{IfOk, IfErr, OnOk, IsTrue, ◌↔◌};
+    ghost use Rattle.std.specs.Prelude.{◌≡◌, true, [], ◌∷◌, ◌&&◌, length, None, Some};
+    ghost use Rattle.std.specs.Prelude.{IfOk, IfErr, IsTrue, ◌↔◌};
     ghost use Rattle.zarrs_subset.specs.Boxes.{position_count};
-    ghost use Rattle.zarrs_subset.specs.Regions.{Box, LiesInShape, box_of, positions, seen_from};
+    ghost use Rattle.zarrs_subset.specs.Regions.{LiesInBox, LiesInShape, box_of, seen_from};
     ghost use Rattle.zarrs_subset.specs.Refusals.{RefusesOffset};
     ghost use Rattle.zarrs_chunk_grid.specs.Grids.{box_at, has_box};
-    ghost use Rattle.zarrs_data_type.specs.ArrayData.{ArrayData, data_of};
+    ghost use Rattle.zarrs_data_type.specs.ArrayData.{data_of};
     ghost use Rattle.zarrs_data_type.specs.Cells.{HasCells};
     ghost use Rattle.zarrs_data_type.specs.Parts.{ExtractsCells};
-    ghost use Rattle.zarrs_subset.specs.Regions.{LiesInBox};
     ghost use Rattle.zarrs_codec_shard.specs.PartialShards.{after};
     ghost use Rattle.zarrs_codec_shard.specs.ShardPatches.{change_of};
     ghost use Rattle.zarrs_codec_chain.specs.Chain.{partial_encoding};
     ghost use Rattle.zarrs_codec_chain.specs.Options.{encodes_partially, stores_empty_chunks};
     ghost use Rattle.zarrs_engine_calls.specs.ArgumentRefusals.{part_refusal};
-    ghost use Rattle.zarrs_engine_calls.specs.ChunkBoxes.{part_box};
     ghost use Rattle.zarrs_engine_calls.specs.Content.{value_at};
-    ghost use Rattle.zarrs_engine_calls.specs.Patches.{PatchesAll, RefusesPartly, RefusesPatches};
+    ghost use Rattle.zarrs_engine_calls.specs.Patches.{PatchesAll, RefusesPartly};
     ghost use Rattle.zarrs_engine_calls.specs.Patches.{writes_parts};
     ghost use Rattle.zarrs_engine_calls.specs.StateRefusals.{IsPart};
-    ghost use Rattle.zarrs_engine_calls.specs.Reach.{MayAskChunk, MayAskParts};
-    ghost use Rattle.zarrs_engine_calls.specs.Refusals.{Refusal, refusal_of};
+    ghost use Rattle.zarrs_engine_calls.specs.Reach.{MayAskChunk};
+    ghost use Rattle.zarrs_engine_calls.specs.Refusals.{refusal_of};
     ghost use Rattle.zarrs_engine_calls.specs.Refusals.{refusal_of_storage};
-    ghost use Rattle.zarrs_engine_layout.specs.Covers.{CoverRegion};
-    ghost use Rattle.zarrs_engine.specs.RegionWrites.{AreCovered};
-    ghost use Rattle.zarrs_engine.specs.Engine.{layout_of, store_of, KeepsLayout};
+    ghost use Rattle.zarrs_engine_layout.specs.Chunks.{IsChunk};
+    ghost use Rattle.zarrs_engine.specs.Engine.{layout_of, store_of};
     ghost use Rattle.zarrs_engine.specs.Outcomes.{EncodesPartOrRefuses, Writes};
+    ghost use Rattle.zarrs_engine.specs.PartStores.{TakesItself};
     ghost use Rattle.zarrs_engine.specs.Patches.{LeavesPartly, LeavesPatch, PatchesChunk, PutsPart};
-    ghost use Rattle.zarrs_engine.specs.Patches.{RefusesPutPart, Shares, SharesEach};
+    ghost use Rattle.zarrs_engine.specs.Patches.{RefusesPutPart, Shares};
 
     /// Returns whether the parts of chunks are written by themselves: the chain and the store can.
     pub(crate) fn encodes_partly(&self) -> bool
@@ -74,7 +73,7 @@ impl<
             (layout_of self.now) (store_of S.state self.now) ≡ true)
             × (LiesInBox (box_of chunk.now) (box_of region.now) → ⊥)) }
     {
-        self.writes_parts(options) && !lies_in_box(chunk, region)
+        takes_itself(self.writes_parts(options), region, chunk)
     }
 
     /// Does what is to be done with a key, by one writing call of the store.
@@ -101,67 +100,64 @@ impl<
     fn part_write(
         &self,
         alloc: Global,
-        chunk_indices: &[u64],
-        chunk: &ArraySubset,
+        chunk: &Chunk<'_>,
         part: &ArraySubset,
         part_data: &ArrayBytes<'_>,
         options: &CodecOptions,
     ) -> Result<PartialWrite, ArrayError>
         requires supported { (layout_of self.now).chain.encodes_partly ≡ true }
-        requires long { length chunk_indices.now ≡ (layout_of self.now).grid.dimensions }
-        requires chunk { box_of chunk.now ≡ box_at (layout_of self.now).grid chunk_indices.now }
-        requires dimensions { length (box_of part.now).start ≡ length (box_of chunk.now).shape }
+        requires chunk { IsChunk (layout_of self.now) chunk.now }
+        requires dimensions { length (box_of part.now).start
+            ≡ length (box_of chunk.now.region).shape }
         requires cells { HasCells (layout_of self.now).kind (data_of part_data.now)
             (position_count (box_of part.now).shape) }
-        requires ask { MayAskChunk (layout_of self.now) chunk_indices.now
+        requires ask { MayAskChunk (layout_of self.now) chunk.now.indices.now
             (store_of S.state self.now) }
         ensures written { IfOk result (λ write.
             partial_encoding (layout_of self.now).chain (stores_empty_chunks options.now)
             (layout_of self.now).kind (layout_of self.now).fill
-            (box_at (layout_of self.now).grid chunk_indices.now).shape
-            (value_at (store_of S.state self.now) ((layout_of self.now).key chunk_indices.now))
+            (box_at (layout_of self.now).grid chunk.now.indices.now).shape
+            (value_at (store_of S.state self.now) ((layout_of self.now).key chunk.now.indices.now))
             (box_of part.now) (data_of part_data.now) ≡ Some (change_of write)) }
         ensures refused { IfErr result (λ e. RefusesPartly (layout_of self.now)
-            (stores_empty_chunks options.now) chunk_indices.now (box_of part.now)
+            (stores_empty_chunks options.now) chunk.now.indices.now (box_of part.now)
             (data_of part_data.now) 0 (store_of S.state self.now) (refusal_of e)) }
     {
-        let Some(encoded) = self.stored_bytes(alloc, chunk_indices)? else {
+        let region = &chunk.region;
+        let Some(encoded) = self.stored_at(alloc, chunk)? else {
             return self
                 .layout
-                .partial_encode(alloc, chunk, None, part, part_data, options);
+                .partial_encode(alloc, region, None, part, part_data, options);
         };
         self.layout
-            .partial_encode(alloc, chunk, Some(&encoded), part, part_data, options)
+            .partial_encode(alloc, region, Some(&encoded), part, part_data, options)
     }
 
     /// Stores the cells of a part of a chunk, seen from the chunk's origin, by a partial encode and one writing call.
     pub(crate) fn patch_chunk(
         &mut self,
         alloc: Global,
-        chunk_indices: &[u64],
-        chunk: &ArraySubset,
+        chunk: &Chunk<'_>,
         part: &ArraySubset,
         part_data: &ArrayBytes<'_>,
         options: &CodecOptions,
     ) -> Result<(), ArrayError>
         requires supported { (layout_of self.old).chain.encodes_partly ≡ true }
-        requires boxed { has_box (layout_of self.old).grid chunk_indices.now ≡ true }
-        requires chunk { box_of chunk.now ≡ box_at (layout_of self.old).grid chunk_indices.now }
+        requires chunk { IsChunk (layout_of self.old) chunk.now }
         requires part { LiesInShape (box_of part.now)
-            (box_at (layout_of self.old).grid chunk_indices.now).shape }
+            (box_at (layout_of self.old).grid chunk.now.indices.now).shape }
         requires cells { HasCells (layout_of self.old).kind (data_of part_data.now)
             (position_count (box_of part.now).shape) }
-        requires ask { MayAskChunk (layout_of self.old) chunk_indices.now
+        requires ask { MayAskChunk (layout_of self.old) chunk.now.indices.now
             (store_of S.state self.old) }
         ensures { Writes refusal_of S.state (PatchesChunk (layout_of self.old)
-            (stores_empty_chunks options.now) chunk_indices.now (box_of part.now)
+            (stores_empty_chunks options.now) chunk.now.indices.now (box_of part.now)
             (data_of part_data.now)) (LeavesPartly (layout_of self.old)
-            (stores_empty_chunks options.now) chunk_indices.now (box_of part.now)
+            (stores_empty_chunks options.now) chunk.now.indices.now (box_of part.now)
             (data_of part_data.now)) self.old self.new result }
     {
-        let write = self.part_write(alloc, chunk_indices, chunk, part, part_data, options)?;
-        let key = self.layout.chunk_key(alloc, chunk_indices)?;
-        self.put_part(alloc, &key, write)?;
+        let write = self.part_write(alloc, chunk, part, part_data, options)?;
+        self.put_part(alloc, &chunk.key, write)?;
         Ok(())
     }
 
@@ -190,27 +186,20 @@ impl<
         ensures { EncodesPartOrRefuses S.state (stores_empty_chunks options.now) chunk_indices.now
             (box_of chunk_subset.now) (data_of chunk_subset_data.now) self.old self.new result }
     {
-        let chunk = self.layout.chunk_box(alloc, chunk_indices)?;
+        let chunk = self.layout.chunk(alloc, chunk_indices)?;
         let region = self
             .layout
-            .part_of(alloc, chunk_indices, &chunk, chunk_subset)?;
-        let whole = region == chunk;
+            .part_of(alloc, chunk_indices, &chunk.region, chunk_subset)?;
+        let whole = region == chunk.region;
         self.layout.check_cells(whole, &region, chunk_subset_data)?;
         if self.encodes_partly() {
-            return self.patch_chunk(
-                alloc,
-                chunk_indices,
-                &chunk,
-                chunk_subset,
-                chunk_subset_data,
-                options,
-            );
+            return self.patch_chunk(alloc, &chunk, chunk_subset, chunk_subset_data, options);
         }
         if whole {
             // No cell of the chunk stays, so its bytes are not decoded.
-            self.stored_bytes(alloc, chunk_indices)?;
+            self.stored_at(alloc, &chunk)?;
         }
-        self.store_part(alloc, &region, chunk_subset_data, chunk_indices, options)
+        self.store_whole(alloc, &region, chunk_subset_data, &chunk, options)
     }
 
     /// Returns a box inside a region, seen from `origin`, and the region's cells in it.
@@ -241,80 +230,48 @@ impl<
         Ok((seen, data))
     }
 
-    /// Stores the part of the region's data that one chunk takes: a chunk that the region covers is stored whole, the part
-    /// of another one is written by itself.
-    fn patch_part(
+    /// Stores the part of the region's data that one chunk takes, by itself. The region covers a part of the chunk alone.
+    pub(super) fn patch_part(
         &mut self,
         alloc: Global,
         region: &ArraySubset,
         region_data: &ArrayBytes<'_>,
-        chunk_indices: &[u64],
+        chunk: &Chunk<'_>,
         options: &CodecOptions,
     ) -> Result<(), ArrayError>
         requires supported { (layout_of self.old).chain.encodes_partly ≡ true }
-        requires boxed { has_box (layout_of self.old).grid chunk_indices.now ≡ true }
+        requires chunk { IsChunk (layout_of self.old) chunk.now }
         requires dimensions { length (box_of region.now).start
             ≡ (layout_of self.old).grid.dimensions }
-        requires covered { AreCovered (layout_of self.old).grid (box_of region.now) }
-        requires meets { Shares (box_of region.now)
-            (box_at (layout_of self.old).grid chunk_indices.now) }
+        requires part { IsPart (layout_of self.old) (box_of region.now) chunk.now.indices.now }
+        requires meets { Shares (box_of region.now) (box_of chunk.now.region) }
         requires given { HasCells (layout_of self.old).kind (data_of region_data.now)
             (position_count (box_of region.now).shape) }
-        requires ask { MayAskParts (layout_of self.old) (box_of region.now)
-            (chunk_indices.now ∷ []) (store_of S.state self.old) }
+        requires ask { MayAskChunk (layout_of self.old) chunk.now.indices.now
+            (store_of S.state self.old) }
         ensures { Writes refusal_of S.state (PatchesAll (layout_of self.old)
-            (stores_empty_chunks options.now) (IsPart (layout_of self.old) (box_of region.now))
-            (box_of region.now) (data_of region_data.now) (chunk_indices.now ∷ []))
-            (LeavesPatch (layout_of self.old) (stores_empty_chunks options.now)
-            (IsPart (layout_of self.old) (box_of region.now)) (box_of region.now)
-            (data_of region_data.now) chunk_indices.now) self.old self.new result }
+            (stores_empty_chunks options.now) (TakesItself (layout_of self.old) true
+            (box_of region.now)) (box_of region.now) (data_of region_data.now)
+            (chunk.now.indices.now ∷ [])) (LeavesPatch (layout_of self.old)
+            (stores_empty_chunks options.now) (TakesItself (layout_of self.old) true
+            (box_of region.now)) (box_of region.now) (data_of region_data.now)
+            chunk.now.indices.now) self.old self.new result }
     {
-        let chunk = self.layout.chunk_box(alloc, chunk_indices)?;
-        if lies_in_box(&chunk, region) {
-            return self.store_part(alloc, region, region_data, chunk_indices, options);
-        }
-        let shared = region.overlap(alloc, &chunk)?;
-        let (part, data) = self.seen_cells(alloc, region, region_data, &shared, chunk.start())?;
-        self.patch_chunk(alloc, chunk_indices, &chunk, &part, &data, options)
+        let shared = region.overlap(alloc, &chunk.region)?;
+        let origin = chunk.region.start();
+        let (part, data) = self.seen_cells(alloc, region, region_data, &shared, origin)?;
+        self.patch_chunk(alloc, chunk, &part, &data, options)
     }
+}
 
-    /// Stores the region's data in these chunks, one after another, those of which it covers a part by themselves.
-    pub(crate) fn patch_along(
-        &mut self,
-        alloc: Global,
-        region: &ArraySubset,
-        region_data: &ArrayBytes<'_>,
-        chunks: &ArraySubset,
-        options: &CodecOptions,
-    ) -> Result<(), ArrayError>
-        requires supported { (layout_of self.old).chain.encodes_partly ≡ true }
-        requires cover { CoverRegion (layout_of self.old).grid (box_of region.now)
-            (positions (box_of chunks.now)) }
-        requires meets { SharesEach (layout_of self.old).grid (box_of region.now)
-            (positions (box_of chunks.now)) }
-        requires given { HasCells (layout_of self.old).kind (data_of region_data.now)
-            (position_count (box_of region.now).shape) }
-        requires ask { MayAskParts (layout_of self.old) (box_of region.now)
-            (positions (box_of chunks.now)) (store_of S.state self.old) }
-        ensures done { OnOk result (PatchesAll (layout_of self.old)
-            (stores_empty_chunks options.now) (IsPart (layout_of self.old) (box_of region.now))
-            (box_of region.now) (data_of region_data.now) (positions (box_of chunks.now))
-            (store_of S.state self.old) (store_of S.state self.new)) }
-        ensures refused { (first : Option Refusal) → first ≡ None → IfErr result
-            (λ e. RefusesPatches (layout_of self.old) (stores_empty_chunks options.now)
-            (IsPart (layout_of self.old) (box_of region.now)) first (box_of region.now)
-            (data_of region_data.now) (positions (box_of chunks.now)) (refusal_of e)
-            (store_of S.state self.old) (store_of S.state self.new)) }
-        ensures layout_kept { KeepsLayout self.old self.new }
-    {
-        let Some(mut walk) = chunks.walk(alloc)? else {
-            return Ok(());
-        };
-        loop {
-            self.patch_part(alloc, region, region_data, walk.current(), options)?;
-            if !walk.advance() {
-                return Ok(());
-            }
-        }
-    }
+ghost use Rattle.std.specs.Prelude.{◌≡◌, ◌↔◌, true, IsTrue};
+ghost use Rattle.zarrs_subset.specs.Regions.{LiesInBox, box_of};
+
+/// Returns whether a chunk of this box takes its part of the region by itself, where `parts` are written so: one that the
+/// region covers does not.
+pub(super) fn takes_itself(parts: bool, region: &ArraySubset, chunk: &ArraySubset) -> bool
+    ensures { IsTrue result ↔ ((parts ≡ true)
+        × (LiesInBox (box_of chunk.now) (box_of region.now) → ⊥)) }
+{
+    parts && !lies_in_box(chunk, region)
 }

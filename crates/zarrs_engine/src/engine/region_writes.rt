@@ -1,11 +1,12 @@
 //! Writes of parts of chunks, of ranges of chunks and of regions.
 use super::Engine;
+use super::partial_writes::takes_itself;
 use std::alloc::Global;
 use zarrs_chunk_grid::ChunkGridTraits;
 use zarrs_codec_chain::{ChainTraits, CodecOptions};
 use zarrs_data_type::ArrayBytes;
 use zarrs_engine_calls::ArrayError;
-use zarrs_engine_layout::invalid_indices;
+use zarrs_engine_layout::{Chunk, invalid_indices};
 use zarrs_keys::ChunkKeyEncodingTraits;
 use zarrs_storage::WritableStorageTraits;
 use zarrs_subset::{ArraySubset, IncompatibleDimensionalityError, lies_in_box};
@@ -16,25 +17,25 @@ impl<
     K: ChunkKeyEncodingTraits,
     C: ChainTraits,
 > Engine<S, G, K, C> {
-    ghost use Rattle.std.specs.Prelude.{◌≡◌, true, false, Bool, Option, None, [], ◌∷◌, length};
+    ghost use Rattle.std.specs.Prelude.{◌≡◌, true, false, Bool, [], ◌∷◌, length};
     ghost use Rattle.std.specs.Prelude.{IfOk, IfErr, OnOk, option_map};
     ghost use Rattle.zarrs_subset.specs.Boxes.{position_count};
-    ghost use Rattle.zarrs_subset.specs.Regions.{Box, box_of, positions};
+    ghost use Rattle.zarrs_subset.specs.Regions.{box_of, positions};
     ghost use Rattle.zarrs_chunk_grid.specs.Grids.{box_at, has_box};
-    ghost use Rattle.zarrs_data_type.specs.ArrayData.{ArrayData, data_of};
-    ghost use Rattle.zarrs_data_type.specs.Cells.{HasCells, cells};
+    ghost use Rattle.zarrs_data_type.specs.ArrayData.{data_of};
+    ghost use Rattle.zarrs_data_type.specs.Cells.{HasCells};
     ghost use Rattle.zarrs_codec_chain.specs.Options.{stores_empty_chunks};
-    ghost use Rattle.zarrs_engine_calls.specs.Fronts.{StoresAll};
     ghost use Rattle.zarrs_engine_calls.specs.Reach.{MayAskParts};
-    ghost use Rattle.zarrs_engine_calls.specs.Refusals.{Refusal, data_refusal, is_too_large, refusal_of};
+    ghost use Rattle.zarrs_engine_calls.specs.Refusals.{is_too_large, refusal_of};
     ghost use Rattle.zarrs_engine_calls.specs.StateRefusals.{RefusesPart};
-    ghost use Rattle.zarrs_engine_calls.specs.Step.{RefusesStore};
     ghost use Rattle.zarrs_engine.specs.Outcomes.{StoresRegionAs, MayStoreRegion};
     ghost use Rattle.zarrs_engine.specs.Outcomes.{StoresChunksOrRefuses, Writes};
     ghost use Rattle.zarrs_engine.specs.Outcomes.{StoresPartAs, MayStorePart};
+    ghost use Rattle.zarrs_engine_layout.specs.Chunks.{IsChunk};
     ghost use Rattle.zarrs_engine_layout.specs.Covers.{CoverRegion};
-    ghost use Rattle.zarrs_engine_layout.specs.Steps.{HasValue};
-    ghost use Rattle.zarrs_engine.specs.Engine.{layout_of, state_of, store_of, KeepsLayout};
+    ghost use Rattle.zarrs_engine.specs.Engine.{layout_of, store_of};
+    ghost use Rattle.zarrs_engine.specs.PartStores.{IsPartValue, StoresPartOf, StoresPartsOf};
+    ghost use Rattle.zarrs_engine.specs.Patches.{Shares, SharesEach};
     ghost use Rattle.zarrs_engine.specs.RegionWrites.{AreCovered, HasUpdated, LeavesPart};
     ghost use Rattle.zarrs_engine.specs.RegionWrites.{StoresOneMore};
 
@@ -45,144 +46,159 @@ impl<
         alloc: Global,
         region: &ArraySubset,
         region_data: &ArrayBytes<'_>,
-        chunk_indices: &[u64],
-        chunk: &ArraySubset,
+        chunk: &Chunk<'_>,
     ) -> Result<ArrayBytes<'static>, ArrayError>
-        requires boxed { has_box (layout_of self.now).grid chunk_indices.now ≡ true }
-        requires chunk { box_of chunk.now ≡ box_at (layout_of self.now).grid chunk_indices.now }
-        requires fit { is_too_large (layout_of self.now) (box_of chunk.now).shape ≡ false }
+        requires chunk { IsChunk (layout_of self.now) chunk.now }
+        requires fit { is_too_large (layout_of self.now) (box_of chunk.now.region).shape ≡ false }
         requires dimensions { length (box_of region.now).start
             ≡ (layout_of self.now).grid.dimensions }
         requires given { HasCells (layout_of self.now).kind (data_of region_data.now)
             (position_count (box_of region.now).shape) }
         requires ask { MayAskParts (layout_of self.now) (box_of region.now)
-            (chunk_indices.now ∷ []) (store_of S.state self.now) }
+            (chunk.now.indices.now ∷ []) (store_of S.state self.now) }
         ensures updated { IfOk result (λ made. HasUpdated (layout_of self.now) (box_of region.now)
-            (data_of region_data.now) chunk_indices.now (store_of S.state self.now)
+            (data_of region_data.now) chunk.now.indices.now (store_of S.state self.now)
             (data_of made)) }
         ensures refused { (keep : Bool) → IfErr result
             (λ e. RefusesPart (layout_of self.now) keep (box_of region.now)
-            (data_of region_data.now) chunk_indices.now 0 (store_of S.state self.now)
+            (data_of region_data.now) chunk.now.indices.now 0 (store_of S.state self.now)
             (refusal_of e)) }
     {
-        if lies_in_box(chunk, region) {
-            let data = region_data.extract_array_subset(
-                alloc,
-                &self.layout.cell_type.data_type,
-                region,
-                chunk,
-            )?;
+        let data_type = &self.layout.cell_type.data_type;
+        if lies_in_box(&chunk.region, region) {
+            let data = region_data.extract_array_subset(alloc, data_type, region, &chunk.region)?;
             return Ok(data);
         }
-        let held = self.retrieve_chunk(alloc, chunk_indices)?;
-        let data = held.update_array_bytes(
-            alloc,
-            &self.layout.cell_type.data_type,
-            chunk,
-            region_data,
-            region,
-        )?;
+        let held = self.chunk_cells(alloc, chunk)?;
+        let data = held.update_array_bytes(alloc, data_type, &chunk.region, region_data, region)?;
         Ok(data)
     }
 
-    /// Puts the value of a chunk at its key, by one writing call of the store.
-    fn put_value(
-        &mut self,
+    /// Returns what is to be present at the key of a chunk after it took its part of the region's data.
+    fn part_value(
+        &self,
         alloc: Global,
-        chunk_indices: &[u64],
-        value: Option<Vec<u8>>,
-    ) -> Result<(), ArrayError>
-        requires boxed { has_box (layout_of self.old).grid chunk_indices.now ≡ true }
-        requires fit { is_too_large (layout_of self.old)
-            (box_at (layout_of self.old).grid chunk_indices.now).shape ≡ false }
-        ensures done { (keep : Bool) (region : Box) (held made : ArrayData)
-            → AreCovered (layout_of self.old).grid region
-            → HasCells (layout_of self.old).kind held (position_count region.shape)
-            → HasUpdated (layout_of self.old) region held chunk_indices.now
-            (store_of S.state self.old) made
-            → HasValue (layout_of self.old) keep (box_at (layout_of self.old).grid
-            chunk_indices.now) made (option_map (λ v. v.items) value)
-            → OnOk result (StoresOneMore (layout_of self.old) keep region held chunk_indices.now
-            (store_of S.state self.old) (store_of S.state self.new)) }
-        ensures refused { (keep : Bool) (region : Box) (held made : ArrayData)
-            → HasUpdated (layout_of self.old) region held chunk_indices.now
-            (store_of S.state self.old) made
-            → data_refusal (layout_of self.old) keep (box_at (layout_of self.old).grid
-            chunk_indices.now).shape (cells (layout_of self.old).kind made) ≡ None
-            → IfErr result (λ e. LeavesPart (layout_of self.old) keep region held
-            chunk_indices.now (refusal_of e) (store_of S.state self.old)
-            (store_of S.state self.new)) }
-        ensures layout_kept { KeepsLayout self.old self.new }
+        region: &ArraySubset,
+        region_data: &ArrayBytes<'_>,
+        chunk: &Chunk<'_>,
+        options: &CodecOptions,
+    ) -> Result<Option<Vec<u8>>, ArrayError>
+        requires chunk { IsChunk (layout_of self.now) chunk.now }
+        requires dimensions { length (box_of region.now).start
+            ≡ (layout_of self.now).grid.dimensions }
+        requires given { HasCells (layout_of self.now).kind (data_of region_data.now)
+            (position_count (box_of region.now).shape) }
+        requires ask { MayAskParts (layout_of self.now) (box_of region.now)
+            (chunk.now.indices.now ∷ []) (store_of S.state self.now) }
+        ensures value { IfOk result (λ value. IsPartValue (layout_of self.now)
+            (stores_empty_chunks options.now) (box_of region.now) (data_of region_data.now)
+            chunk.now.indices.now (store_of S.state self.now) (option_map (λ v. v.items) value)) }
+        ensures fit { OnOk result (is_too_large (layout_of self.now)
+            (box_at (layout_of self.now).grid chunk.now.indices.now).shape ≡ false) }
+        ensures refused { IfErr result (λ e. RefusesPart (layout_of self.now)
+            (stores_empty_chunks options.now) (box_of region.now) (data_of region_data.now)
+            chunk.now.indices.now 0 (store_of S.state self.now) (refusal_of e)) }
     {
-        let key = self.layout.chunk_key(alloc, chunk_indices)?;
-        self.put(alloc, &key, value)?;
-        Ok(())
+        let Some(_) = self.layout.cell_count(&chunk.region) else {
+            return Err(ArrayError::SizeOverflow);
+        };
+        if chunk.region == *region {
+            return self.layout.value_of(alloc, chunk, region_data, options);
+        }
+        let data = self.updated_chunk(alloc, region, region_data, chunk)?;
+        self.layout.value_of_owned(alloc, chunk, data, options)
     }
 
-    /// Stores the part of the region's data that one chunk takes.
-    pub(crate) fn store_part(
+    /// Stores the part of the region's data that one chunk takes, by a value of the whole chunk.
+    pub(crate) fn store_whole(
         &mut self,
         alloc: Global,
         region: &ArraySubset,
         region_data: &ArrayBytes<'_>,
-        chunk_indices: &[u64],
+        chunk: &Chunk<'_>,
         options: &CodecOptions,
     ) -> Result<(), ArrayError>
-        requires boxed { has_box (layout_of self.old).grid chunk_indices.now ≡ true }
+        requires chunk { IsChunk (layout_of self.old) chunk.now }
         requires dimensions { length (box_of region.now).start
             ≡ (layout_of self.old).grid.dimensions }
         requires covered { AreCovered (layout_of self.old).grid (box_of region.now) }
         requires given { HasCells (layout_of self.old).kind (data_of region_data.now)
             (position_count (box_of region.now).shape) }
         requires ask { MayAskParts (layout_of self.old) (box_of region.now)
-            (chunk_indices.now ∷ []) (store_of S.state self.old) }
+            (chunk.now.indices.now ∷ []) (store_of S.state self.old) }
         ensures { Writes refusal_of S.state
             (StoresOneMore (layout_of self.old) (stores_empty_chunks options.now)
-            (box_of region.now) (data_of region_data.now) chunk_indices.now)
+            (box_of region.now) (data_of region_data.now) chunk.now.indices.now)
             (LeavesPart (layout_of self.old) (stores_empty_chunks options.now)
-            (box_of region.now) (data_of region_data.now) chunk_indices.now)
+            (box_of region.now) (data_of region_data.now) chunk.now.indices.now)
             self.old self.new result }
     {
-        let chunk = self.layout.chunk(alloc, chunk_indices)?;
-        if chunk.region == *region {
-            let value = self.layout.value_of(alloc, &chunk, region_data, options)?;
-            return self.put_value(alloc, chunk_indices, value);
-        }
-        let data = self.updated_chunk(alloc, region, region_data, chunk_indices, &chunk.region)?;
-        let value = self.layout.value_of_owned(alloc, &chunk, data, options)?;
-        self.put_value(alloc, chunk_indices, value)
+        let value = self.part_value(alloc, region, region_data, chunk, options)?;
+        self.put(alloc, &chunk.key, value)?;
+        Ok(())
     }
 
-    /// Stores the region's data in these chunks, one after another.
+    /// Stores the part of the region's data that one chunk takes: by itself where `parts` are written so and the region
+    /// covers a part of the chunk alone, else whole.
+    fn store_part(
+        &mut self,
+        alloc: Global,
+        region: &ArraySubset,
+        region_data: &ArrayBytes<'_>,
+        chunk_indices: &[u64],
+        parts: bool,
+        options: &CodecOptions,
+    ) -> Result<(), ArrayError>
+        requires supported { parts ≡ true → (layout_of self.old).chain.encodes_partly ≡ true }
+        requires boxed { has_box (layout_of self.old).grid chunk_indices.now ≡ true }
+        requires dimensions { length (box_of region.now).start
+            ≡ (layout_of self.old).grid.dimensions }
+        requires covered { AreCovered (layout_of self.old).grid (box_of region.now) }
+        requires meets { parts ≡ true → Shares (box_of region.now)
+            (box_at (layout_of self.old).grid chunk_indices.now) }
+        requires given { HasCells (layout_of self.old).kind (data_of region_data.now)
+            (position_count (box_of region.now).shape) }
+        requires ask { MayAskParts (layout_of self.old) (box_of region.now)
+            (chunk_indices.now ∷ []) (store_of S.state self.old) }
+        ensures { StoresPartOf S.state (stores_empty_chunks options.now) parts (box_of region.now)
+            (data_of region_data.now) chunk_indices.now self.old self.new result }
+    {
+        let chunk = self.layout.chunk(alloc, chunk_indices)?;
+        if takes_itself(parts, region, &chunk.region) {
+            return self.patch_part(alloc, region, region_data, &chunk, options);
+        }
+        self.store_whole(alloc, region, region_data, &chunk, options)
+    }
+
+    /// Stores the region's data in these chunks, one after another: in those of which it covers a part alone by
+    /// themselves, where `parts` are written so.
     fn store_along(
         &mut self,
         alloc: Global,
         region: &ArraySubset,
         region_data: &ArrayBytes<'_>,
         chunks: &ArraySubset,
+        parts: bool,
         options: &CodecOptions,
     ) -> Result<(), ArrayError>
+        requires supported { parts ≡ true → (layout_of self.old).chain.encodes_partly ≡ true }
         requires cover { CoverRegion (layout_of self.old).grid (box_of region.now)
+            (positions (box_of chunks.now)) }
+        requires meets { parts ≡ true → SharesEach (layout_of self.old).grid (box_of region.now)
             (positions (box_of chunks.now)) }
         requires given { HasCells (layout_of self.old).kind (data_of region_data.now)
             (position_count (box_of region.now).shape) }
         requires ask { MayAskParts (layout_of self.old) (box_of region.now)
             (positions (box_of chunks.now)) (store_of S.state self.old) }
-        ensures done { OnOk result
-            (StoresAll (layout_of self.old) (stores_empty_chunks options.now) (box_of region.now)
-            (data_of region_data.now) (positions (box_of chunks.now)) (store_of S.state self.old)
-            (store_of S.state self.new)) }
-        ensures refused { (first : Option Refusal) → first ≡ None → IfErr result
-            (λ e. RefusesStore (layout_of self.old) (stores_empty_chunks options.now) first
-            (box_of region.now) (data_of region_data.now) (positions (box_of chunks.now))
-            (refusal_of e) (store_of S.state self.old) (store_of S.state self.new)) }
-        ensures layout_kept { KeepsLayout self.old self.new }
+        ensures { StoresPartsOf S.state (stores_empty_chunks options.now) parts (box_of region.now)
+            (data_of region_data.now) (positions (box_of chunks.now)) self.old self.new result }
     {
         let Some(mut walk) = chunks.walk(alloc)? else {
             return Ok(());
         };
         loop {
-            self.store_part(alloc, region, region_data, walk.current(), options)?;
+            let chunk = walk.current();
+            self.store_part(alloc, region, region_data, chunk, parts, options)?;
             if !walk.advance() {
                 return Ok(());
             }
@@ -220,7 +236,7 @@ impl<
         }
         let region = self.layout.chunks_region(alloc, chunks)?;
         self.layout.check_cells(number == 1, &region, chunks_data)?;
-        self.store_along(alloc, &region, chunks_data, chunks, options)
+        self.store_along(alloc, &region, chunks_data, chunks, false, options)
     }
 
     /// Stores the cells over a part of the chunk with these indices, by one writing call of the store. The part is seen
@@ -251,23 +267,16 @@ impl<
             let error = IncompatibleDimensionalityError::new(chunk_indices.len(), dimensions);
             return Err(ArrayError::IncompatibleDimensionalityError(error));
         }
-        let chunk = self.layout.chunk_box(alloc, chunk_indices)?;
+        let chunk = self.layout.chunk(alloc, chunk_indices)?;
         let region = self
             .layout
-            .part_of(alloc, chunk_indices, &chunk, chunk_subset)?;
+            .part_of(alloc, chunk_indices, &chunk.region, chunk_subset)?;
         self.layout
-            .check_cells(region == chunk, &region, chunk_subset_data)?;
-        if self.writes_part(&region, &chunk, options) {
-            return self.patch_chunk(
-                alloc,
-                chunk_indices,
-                &chunk,
-                chunk_subset,
-                chunk_subset_data,
-                options,
-            );
+            .check_cells(region == chunk.region, &region, chunk_subset_data)?;
+        if self.writes_part(&region, &chunk.region, options) {
+            return self.patch_chunk(alloc, &chunk, chunk_subset, chunk_subset_data, options);
         }
-        self.store_part(alloc, &region, chunk_subset_data, chunk_indices, options)
+        self.store_whole(alloc, &region, chunk_subset_data, &chunk, options)
     }
 
     /// Stores the cells, in row-major order, over the region, one chunk after another in row-major order, each by one
@@ -297,9 +306,7 @@ impl<
         let is_chunk = self.layout.is_one_chunk(alloc, array_subset, &chunks)?;
         self.layout
             .check_cells(is_chunk, array_subset, subset_data)?;
-        if self.writes_parts(options) {
-            return self.patch_along(alloc, array_subset, subset_data, &chunks, options);
-        }
-        self.store_along(alloc, array_subset, subset_data, &chunks, options)
+        let parts = self.writes_parts(options);
+        self.store_along(alloc, array_subset, subset_data, &chunks, parts, options)
     }
 }

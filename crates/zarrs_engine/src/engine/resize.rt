@@ -5,7 +5,7 @@ use zarrs_chunk_grid::ChunkGridTraits;
 use zarrs_codec_chain::{ChainTraits, CodecOptions};
 use zarrs_data_type::ArrayBytes;
 use zarrs_engine_calls::ArrayError;
-use zarrs_engine_layout::beyond;
+use zarrs_engine_layout::{Chunk, beyond};
 use zarrs_keys::ChunkKeyEncodingTraits;
 use zarrs_storage::WritableStorageTraits;
 use zarrs_subset::{ArrayShape, ArraySubset, IncompatibleDimensionalityError};
@@ -27,6 +27,7 @@ impl<
     ghost use Rattle.zarrs_engine_calls.specs.Reach.{MayAskChunk, MayAskKept};
     ghost use Rattle.zarrs_engine_calls.specs.Refusals.{Refusal, is_too_large, refusal_of};
     ghost use Rattle.zarrs_engine_calls.specs.StateRefusals.{RefusesCut, RefusesKeptCut};
+    ghost use Rattle.zarrs_engine_layout.specs.Chunks.{IsChunk};
     ghost use Rattle.zarrs_engine.specs.Engine.{layout_of, state_of, store_of, KeepsLayout};
     ghost use Rattle.zarrs_engine.specs.Outcomes.{Writes};
     ghost use Rattle.zarrs_engine.specs.Resizes.{HasCut, HasCutCells, HasFilled, IsCutValue};
@@ -66,25 +67,23 @@ impl<
     fn cut_cells(
         &self,
         alloc: Global,
-        chunk_indices: &[u64],
-        chunk: &ArraySubset,
+        chunk: &Chunk<'_>,
         shape: &[u64],
     ) -> Result<ArrayBytes<'static>, ArrayError>
-        requires boxed { has_box (layout_of self.now).grid chunk_indices.now ≡ true }
-        requires chunk { box_of chunk.now ≡ box_at (layout_of self.now).grid chunk_indices.now }
-        requires fit { is_too_large (layout_of self.now) (box_of chunk.now).shape ≡ false }
+        requires chunk { IsChunk (layout_of self.now) chunk.now }
+        requires fit { is_too_large (layout_of self.now) (box_of chunk.now.region).shape ≡ false }
         requires dimensions { length shape.now ≡ (layout_of self.now).grid.dimensions }
-        requires kept { keeps_some (layout_of self.now).grid shape.now chunk_indices.now ≡ true }
-        requires ask { MayAskChunk (layout_of self.now) chunk_indices.now
+        requires kept { keeps_some (layout_of self.now).grid shape.now chunk.now.indices.now ≡ true }
+        requires ask { MayAskChunk (layout_of self.now) chunk.now.indices.now
             (store_of S.state self.now) }
         ensures cut { IfOk result (λ made. HasCutCells (layout_of self.now) shape.now
-            chunk_indices.now (store_of S.state self.now) (data_of made)) }
+            chunk.now.indices.now (store_of S.state self.now) (data_of made)) }
         ensures refused { (keep : Bool) → IfErr result (λ e. RefusesKeptCut (layout_of self.now)
-            keep shape.now chunk_indices.now 0 (store_of S.state self.now) (refusal_of e)) }
+            keep shape.now chunk.now.indices.now 0 (store_of S.state self.now) (refusal_of e)) }
     {
-        let mut made = self.retrieve_chunk(alloc, chunk_indices)?;
+        let mut made = self.chunk_cells(alloc, chunk)?;
         for axis in 0..shape.len() {
-            made = self.fill_beyond(alloc, made, chunk, shape, axis)?;
+            made = self.fill_beyond(alloc, made, &chunk.region, shape, axis)?;
         }
         Ok(made)
     }
@@ -94,29 +93,31 @@ impl<
     fn cut_value(
         &self,
         alloc: Global,
-        chunk_indices: &[u64],
+        chunk: &Chunk<'_>,
         keeps: bool,
         shape: &[u64],
         options: &CodecOptions,
     ) -> Result<Option<Vec<u8>>, ArrayError>
-        requires boxed { has_box (layout_of self.now).grid chunk_indices.now ≡ true }
+        requires chunk { IsChunk (layout_of self.now) chunk.now }
         requires dimensions { length shape.now ≡ (layout_of self.now).grid.dimensions }
-        requires kept { keeps ≡ keeps_some (layout_of self.now).grid shape.now chunk_indices.now }
-        requires ask { MayAskKept (layout_of self.now) shape.now (chunk_indices.now ∷ [])
+        requires kept { keeps ≡ keeps_some (layout_of self.now).grid shape.now chunk.now.indices.now }
+        requires ask { MayAskKept (layout_of self.now) shape.now (chunk.now.indices.now ∷ [])
             (store_of S.state self.now) }
         ensures value { IfOk result (λ value. IsCutValue (layout_of self.now)
-            (stores_empty_chunks options.now) shape.now chunk_indices.now
+            (stores_empty_chunks options.now) shape.now chunk.now.indices.now
             (store_of S.state self.now) (option_map (λ v. v.items) value)) }
         ensures refused { IfErr result (λ e. RefusesCut (layout_of self.now)
-            (stores_empty_chunks options.now) shape.now chunk_indices.now 0
+            (stores_empty_chunks options.now) shape.now chunk.now.indices.now 0
             (store_of S.state self.now) (refusal_of e)) }
     {
         if !keeps {
             return Ok(None);
         }
-        let chunk = self.layout.chunk(alloc, chunk_indices)?;
-        let data = self.cut_cells(alloc, chunk_indices, &chunk.region, shape)?;
-        let value = self.layout.value_of_owned(alloc, &chunk, data, options)?;
+        let Some(_) = self.layout.cell_count(&chunk.region) else {
+            return Err(ArrayError::SizeOverflow);
+        };
+        let data = self.cut_cells(alloc, chunk, shape)?;
+        let value = self.layout.value_of_owned(alloc, chunk, data, options)?;
         Ok(value)
     }
 
@@ -141,9 +142,9 @@ impl<
         let Some(keeps) = self.layout.cut(chunk_indices, shape) else {
             return Ok(());
         };
-        let value = self.cut_value(alloc, chunk_indices, keeps, shape, options)?;
-        let key = self.layout.chunk_key(alloc, chunk_indices)?;
-        self.put(alloc, &key, value)?;
+        let chunk = self.layout.chunk(alloc, chunk_indices)?;
+        let value = self.cut_value(alloc, &chunk, keeps, shape, options)?;
+        self.put(alloc, &chunk.key, value)?;
         Ok(())
     }
 

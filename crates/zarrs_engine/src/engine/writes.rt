@@ -32,6 +32,7 @@ impl<
     ///
     /// # Errors
     /// If the store refuses, and `OutOfMemory`. No value is changed then.
+    #[inline(always)]
     pub(crate) fn put(
         &mut self,
         alloc: Global,

@@ -1,5 +1,6 @@
 use Rattle.std.proofs.Common.{◌≡◌, ◌∙◌, ℕ, List, Option, Some, None, rules, ap, subst, sym}
 use Rattle.zarrs_subset.specs.Regions.{Box, box_of}
+use Rattle.zarrs_chunk_grid.proofs.Chunks.{box_is_there}
 use Rattle.zarrs_data_type.specs.ArrayData.{data_of}
 use Rattle.zarrs_codec_chain.specs.Options.{stores_empty_chunks}
 use Rattle.zarrs_engine_calls.specs.Content.{value_at}
@@ -18,9 +19,9 @@ returns-in_err-encoded-clause-refused g c =
     let layout = layout_of c.args.self.now in
     let keep = stores_empty_chunks c.args.options.now in
     let state = g.S.ReadableStorageTraits.state c.args.self.now.storage in
-    let index = c.args.chunk_indices.now in
+    let index = c.args.chunk.now.indices.now in
     let r = refusal_of c.in_err-encoded.field-0.0 in
-    let of_key = subst (λ (o : Option Refusal). RefusesBy o r) (second_refusal (length_refusal layout index) _ (right_length layout index c.requires.long)) c.in_err-encoded.ensures.refused in
+    let of_key = subst (λ (o : Option Refusal). RefusesBy o r) (second_refusal (length_refusal layout index) _ (right_length layout index (box_is_there layout.grid index c.requires.chunk.boxed).long)) c.in_err-encoded.ensures.refused in
     let why = key_partly layout keep index (box_of c.args.part.now) (data_of c.args.part_data.now) state r of_key in
     search (rules, why)
 
@@ -29,15 +30,15 @@ returns-in_default-clause-refused g c =
     let layout = layout_of c.args.self.now in
     let keep = stores_empty_chunks c.args.options.now in
     let state = g.S.ReadableStorageTraits.state c.args.self.now.storage in
-    let index = c.args.chunk_indices.now in
+    let index = c.args.chunk.now.indices.now in
     let part = box_of c.args.part.now in
     let held = data_of c.args.part_data.now in
     let at : None ≡ value_at state (layout.key index) = sym c.in_default.is ∙ c.in_ok-encoded.ensures.value in
-    each_error c.partial_encode.result (λ (e : ArrayError). IsNotEncoded layout keep (box_of c.args.chunk.now).shape None part held (refusal_of e))
+    each_error c.partial_encode.result (λ (e : ArrayError). IsNotEncoded layout keep (box_of c.args.chunk.now.region).shape None part held (refusal_of e))
     (λ (e : ArrayError). RefusesPartly layout keep index part held 0 state (refusal_of e))
     (λ e not. encoded_partly layout keep index part held state (refusal_of e)
-    (subst (λ (b : Box). IsNotEncoded layout keep b.shape (value_at state (layout.key index)) part held (refusal_of e)) c.requires.chunk
-    (subst (λ (o : Option (List ℕ)). IsNotEncoded layout keep (box_of c.args.chunk.now).shape o part held (refusal_of e)) at not)))
+    (subst (λ (b : Box). IsNotEncoded layout keep b.shape (value_at state (layout.key index)) part held (refusal_of e)) c.requires.chunk.region
+    (subst (λ (o : Option (List ℕ)). IsNotEncoded layout keep (box_of c.args.chunk.now.region).shape o part held (refusal_of e)) at not)))
     c.partial_encode.ensures.refused
 
 pub returns-clause-refused : goal.returns-clause-refused
@@ -45,13 +46,13 @@ returns-clause-refused g c =
     let layout = layout_of c.args.self.now in
     let keep = stores_empty_chunks c.args.options.now in
     let state = g.S.ReadableStorageTraits.state c.args.self.now.storage in
-    let index = c.args.chunk_indices.now in
+    let index = c.args.chunk.now.indices.now in
     let part = box_of c.args.part.now in
     let held = data_of c.args.part_data.now in
     let at : Some c.deref.result.now ≡ value_at state (layout.key index) = ap Some c.deref.ensures ∙ sym c.in-Some.is ∙ c.in_ok-encoded.ensures.value in
-    each_error c.partial_encode-2.result (λ (e : ArrayError). IsNotEncoded layout keep (box_of c.args.chunk.now).shape (Some c.deref.result.now) part held (refusal_of e))
+    each_error c.partial_encode-2.result (λ (e : ArrayError). IsNotEncoded layout keep (box_of c.args.chunk.now.region).shape (Some c.deref.result.now) part held (refusal_of e))
     (λ (e : ArrayError). RefusesPartly layout keep index part held 0 state (refusal_of e))
     (λ e not. encoded_partly layout keep index part held state (refusal_of e)
-    (subst (λ (b : Box). IsNotEncoded layout keep b.shape (value_at state (layout.key index)) part held (refusal_of e)) c.requires.chunk
-    (subst (λ (o : Option (List ℕ)). IsNotEncoded layout keep (box_of c.args.chunk.now).shape o part held (refusal_of e)) at not)))
+    (subst (λ (b : Box). IsNotEncoded layout keep b.shape (value_at state (layout.key index)) part held (refusal_of e)) c.requires.chunk.region
+    (subst (λ (o : Option (List ℕ)). IsNotEncoded layout keep (box_of c.args.chunk.now.region).shape o part held (refusal_of e)) at not)))
     c.partial_encode-2.ensures.refused

@@ -1,4 +1,4 @@
-use Rattle.std.proofs.Common.{◌≡◌, ◌≢◌, ◌∙◌, ◌==◌, ◌<◌, ◌^◌, false, ℕ, IfErr, List, OnOk, Option, Some, refl, rules, ap, subst, sym, arith}
+use Rattle.std.proofs.Common.{◌≡◌, ◌≢◌, ◌∙◌, ◌==◌, ◌<◌, ◌^◌, false, ℕ, IfErr, List, None, OnOk, Option, Some, refl, rules, ap, subst, sym, arith}
 use Rattle.std.proofs.lemmas.Result.{on_ok_weaker}
 use Rattle.zarrs_subset.specs.Boxes.{position_count}
 use Rattle.zarrs_subset.specs.Regions.{box_of, positions}
@@ -125,16 +125,19 @@ returns g c =
     let new = g.S.ReadableStorageTraits.state c.store_along.new.self.storage in
     let first = store_chunks_refusal layout range held in
     let none = range_first_none layout c.args.self.now.layout.lawful keep range (box_of c.in_ok-region.region) held (c.args.chunks.now.same_length) dimensions small some shape region.region region.cover region.accepted (c.in-Ok.number == 1) one c.in_ok-check_cells.ensures.accepted state new in
+    let e = c.store_along.ensures.whole refl in
     let done : OnOk c.store_along.result (StoresChunks layout keep range held state new) =
-    on_ok_weaker c.store_along.result (range_stored layout c.args.self.now.layout.lawful keep range (box_of c.in_ok-region.region) held (c.args.chunks.now.same_length) dimensions small some shape region.region region.cover region.accepted (c.in-Ok.number == 1) one c.in_ok-check_cells.ensures.accepted state new) c.store_along.ensures.done in
+    on_ok_weaker c.store_along.result (range_stored layout c.args.self.now.layout.lawful keep range (box_of c.in_ok-region.region) held (c.args.chunks.now.same_length) dimensions small some shape region.region region.cover region.accepted (c.in-Ok.number == 1) one c.in_ok-check_cells.ensures.accepted state new) e.done in
     let refused : IfErr c.store_along.result (λ (e : ArrayError). RefusesStoreChunks layout keep range held (refusal_of e) state new) =
     each_error c.store_along.result (λ (e : ArrayError). RefusesStore layout keep first (box_of c.in_ok-region.region) held (positions range) (refusal_of e) state new)
     (λ (e : ArrayError). RefusesStoreChunks layout keep range held (refusal_of e) state new)
     (λ e left. range_left layout c.args.self.now.layout.lawful keep range (box_of c.in_ok-region.region) held (c.args.chunks.now.same_length) dimensions small some shape region.region region.cover region.accepted (c.in-Ok.number == 1) one c.in_ok-check_cells.ensures.accepted state new (refusal_of e) left)
-    (c.store_along.ensures.refused first none) in
+    (each_error c.store_along.result (λ (e : ArrayError). RefusesStore layout keep None (box_of c.in_ok-region.region) held (positions range) (refusal_of e) state new)
+    (λ (e : ArrayError). RefusesStore layout keep first (box_of c.in_ok-region.region) held (positions range) (refusal_of e) state new)
+    (λ e left. subst (λ (f : Option Refusal). RefusesStore layout keep f (box_of c.in_ok-region.region) held (positions range) (refusal_of e) state new) (sym none) left) e.refused) in
     record {
       done = done;
       refused = refused;
       canonical = store_canon layout c.args.self.now.layout.lawful keep state new first (chunks_box layout.grid range) held (positions range) c.store_along.result done refused;
-      layout_kept = c.store_along.ensures.layout_kept;
+      layout_kept = e.layout_kept;
     }

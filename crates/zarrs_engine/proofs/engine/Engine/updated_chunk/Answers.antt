@@ -18,48 +18,48 @@ returns-then-lies_in_box-clause-updated g c =
     let layout = layout_of c.args.self.now in
     let region = box_of c.args.region.now in
     let held = data_of c.args.region_data.now in
-    let index = c.args.chunk_indices.now in
+    let index = c.args.chunk.now.indices.now in
     let made = data_of c.in_ok-data.data in
-    let lies = subst (λ (b : Box). LiesInBox b region) c.requires.chunk (c.lies_in_box.ensures.0 c.if-lies_in_box.true) in
+    let lies = subst (λ (b : Box). LiesInBox b region) c.requires.chunk.region (c.lies_in_box.ensures.0 c.if-lies_in_box.true) in
     let covers = lies_covers (box_at layout.grid index) region (box_long layout.grid index) (c.args.region.now.same_length) lies in
-    let extracts = subst (λ (b : Box). ExtractsCells layout.kind region held b made) c.requires.chunk c.in_ok-data.ensures in
+    let extracts = subst (λ (b : Box). ExtractsCells layout.kind region held b made) c.requires.chunk.region c.in_ok-data.ensures in
     updated_whole layout region held index (g.S.ReadableStorageTraits.state c.args.self.now.storage) made covers extracts
 
-pub retrieve_chunk-requires : goal.retrieve_chunk-requires
-retrieve_chunk-requires g c =
+pub chunk_cells-requires-clause-ask : goal.chunk_cells-requires-clause-ask
+chunk_cells-requires-clause-ask g c =
     let layout = layout_of c.args.self.now in
     let region = box_of c.args.region.now in
-    let index = c.args.chunk_indices.now in
+    let index = c.args.chunk.now.indices.now in
     let part : IsPart layout region index = λ covers.
-    let lies = covers_lies layout.grid c.args.self.now.layout.lawful.grid index c.requires.boxed region (c.args.region.now.same_length) c.requires.dimensions covers in
-    false≢true (sym c.if-lies_in_box.false ∙ c.lies_in_box.ensures.1 (subst (λ (b : Box). LiesInBox b region) (sym c.requires.chunk) lies)) in
+    let lies = covers_lies layout.grid c.args.self.now.layout.lawful.grid index c.requires.chunk.boxed region (c.args.region.now.same_length) c.requires.dimensions covers in
+    false≢true (sym c.if-lies_in_box.false ∙ c.lies_in_box.ensures.1 (subst (λ (b : Box). LiesInBox b region) (sym c.requires.chunk.region) lies)) in
     c.requires.ask index (member index) part
 
 pub returns-in_err-held-clause-refused : goal.returns-in_err-held-clause-refused
 returns-in_err-held-clause-refused g c = λ keep.
     let layout = layout_of c.args.self.now in
     let region = box_of c.args.region.now in
-    let index = c.args.chunk_indices.now in
+    let index = c.args.chunk.now.indices.now in
     let part : IsPart layout region index = λ covers.
-    let lies = covers_lies layout.grid c.args.self.now.layout.lawful.grid index c.requires.boxed region (c.args.region.now.same_length) c.requires.dimensions covers in
-    false≢true (sym c.if-lies_in_box.false ∙ c.lies_in_box.ensures.1 (subst (λ (b : Box). LiesInBox b region) (sym c.requires.chunk) lies)) in
-    let fit = subst (λ (b : Box). is_too_large layout b.shape ≡ false) c.requires.chunk c.requires.fit in
+    let lies = covers_lies layout.grid c.args.self.now.layout.lawful.grid index c.requires.chunk.boxed region (c.args.region.now.same_length) c.requires.dimensions covers in
+    false≢true (sym c.if-lies_in_box.false ∙ c.lies_in_box.ensures.1 (subst (λ (b : Box). LiesInBox b region) (sym c.requires.chunk.region) lies)) in
+    let fit = subst (λ (b : Box). is_too_large layout b.shape ≡ false) c.requires.chunk.region c.requires.fit in
     let why = read_fails layout c.args.self.now.layout.lawful keep region (data_of c.args.region_data.now) index (g.S.ReadableStorageTraits.state c.args.self.now.storage)
-    c.requires.boxed fit part (refusal_of c.in_err-held.field-0.0) c.in_err-held.ensures.refused in
+    c.requires.chunk.boxed fit part (refusal_of c.in_err-held.field-0.0) c.in_err-held.ensures.refused in
     search (rules, why)
 
 pub update_array_bytes-requires-clause-dimensions : goal.update_array_bytes-requires-clause-dimensions
 update_array_bytes-requires-clause-dimensions g c =
     let layout = layout_of c.args.self.now in
-    ap (λ (b : Box). length b.start) c.requires.chunk ∙ box_dimensions layout.grid c.args.chunk_indices.now ∙ sym c.requires.dimensions
+    ap (λ (b : Box). length b.start) c.requires.chunk.region ∙ box_dimensions layout.grid c.args.chunk.now.indices.now ∙ sym c.requires.dimensions
 
 pub returns-clause-updated : goal.returns-clause-updated
 returns-clause-updated g c =
     let layout = layout_of c.args.self.now in
     let region = box_of c.args.region.now in
     let held = data_of c.args.region_data.now in
-    let index = c.args.chunk_indices.now in
+    let index = c.args.chunk.now.indices.now in
     let before = data_of c.in_ok-held.held in
     let made = data_of c.in_ok-data-2.data in
-    let takes = subst (λ (b : Box). TakesCells layout.kind b region held before made) c.requires.chunk c.in_ok-data-2.ensures in
+    let takes = subst (λ (b : Box). TakesCells layout.kind b region held before made) c.requires.chunk.region c.in_ok-data-2.ensures in
     updated_part layout region held index (g.S.ReadableStorageTraits.state c.args.self.now.storage) before made c.in_ok-held.ensures.cells takes

@@ -1,10 +1,10 @@
-use Rattle.std.proofs.Common.{rules}
-use Rattle.zarrs_engine_calls.specs.Refusals.{refusal_of}
 use Rattle.zarrs_engine_layout.specs.Layouts.{layout_meaning}
-use Rattle.zarrs_engine_layout.proofs.ChunkParts.{box_refuses}
+use Rattle.zarrs_engine_layout.proofs.ChunkParts.{chunk_has}
 use Rattle.zarrs_engine_layout.proofs.array_layout.ArrayLayout.chunk.Goals as goal
 
-pub returns-in_err-region-clause-refused : goal.returns-in_err-region-clause-refused
-returns-in_err-region-clause-refused g c =
-    let why = box_refuses (layout_meaning c.args.self.now) c.args.chunk_indices.now (refusal_of c.in_err-region.field-0.0) c.in_err-region.ensures.refused in
-    search (rules, why)
+pub returns-clause-chunk : goal.returns-clause-chunk
+returns-clause-chunk g c = record {
+  boxed = chunk_has (layout_meaning c.args.self.now) c.args.chunk_indices.now c.in_ok-region.ensures.accepted;
+  key = c.in_ok-key.ensures.key;
+  region = c.in_ok-region.ensures.region;
+}
