@@ -1,5 +1,5 @@
 -- What parsing returns.
-use Rattle.std.specs.Prelude.{◌≡◌, ◌==◌, ℕ, ◌+◌, ◌^◌, nat_lt, Bool, false, List, [], ◌∷◌, ◌++◌, Option, Some, None, Result, Ok, Err}
+use Rattle.std.specs.Prelude.{◌≡◌, ◌==◌, ℕ, List, [], ◌∷◌, ◌++◌, Option, Some, None, Result, Ok, Err}
 use Rattle.std.specs.Borrow.{Bor}
 use Rattle.std.specs.List.{slice_split}
 use Rattle.zarrs_subset.specs.Regions.{box_of}
@@ -12,9 +12,7 @@ use Rattle.zarrs_script.specs.declared.command.Command.TheVariants as command
 use Rattle.zarrs_script.specs.declared.error.ParseError.{ParseError}
 use Rattle.zarrs_script.specs.declared.error.ParseError.TheVariants.{NotACommand, OutOfMemory}
 use Rattle.zarrs_metadata_parts.specs.Extension.{◌>>=◌}
-use Rattle.zarrs_script.specs.declared.cell_type.CellType.{CellType}
-use Rattle.zarrs_script.specs.Words.{number_of}
-use Rattle.zarrs_script.specs.Script.{type_after, Order, Array, Chunk, Read, Erase, Put, Get, Resize, Keys, Meta, Other}
+use Rattle.zarrs_script.specs.Script.{Order, Array, Chunk, Read, Erase, Put, Get, Resize, Keys, Meta, Other}
 
 -- a text that says this is refused with this error: it says nothing, or out of memory
 abbrev pub Fails : {Y : Type 0} → ParseError → Option Y → Type 0
@@ -49,19 +47,6 @@ order_of_command (command.Array made) = order_of_creation made
 order_of_command (command.Call asked) = order_of_call asked
 order_of_command command.Keys = Keys
 order_of_command command.Meta = Meta
-
--- the type of the latest array after a line, if the line says an order
-abbrev pub known_after : Option CellType → Option Order → Option CellType
-known_after known None = None
-known_after known (Some order) = type_after known order
-
--- the words are numbers, and their sum is below 2 ^ 64
-abbrev pub is_sum : Option ℕ → Option ℕ → Bool
-is_sum (Some first) (Some extent) = nat_lt (first + extent) (2 ^ 64)
-is_sum _ _ = false
-
-abbrev pub is_range : List ℕ → List ℕ → Bool
-is_range start extent = is_sum (number_of start) (number_of extent)
 
 -- the words of a line that are still to be read
 abbrev pub words_in : Option (Bor (List ℕ)) → List (List ℕ)

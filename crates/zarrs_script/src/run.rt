@@ -173,7 +173,7 @@ fn answer<W: Write>(alloc: Global, writer: &mut W, script: &[u8]) -> Result<u8, 
     ensures { IfOk result (λ status. WritesText (W.contents writer.old) (W.contents writer.new)
         (λ text. IsAnswer script.now text status)) }
 {
-    if let Some(number) = first_bad_line(script) {
+    if let Some(number) = first_bad_line(alloc, script)? {
         let text = complaint(alloc, number)?;
         writer.write_all(&text)?;
         return Ok(2);
