@@ -1,18 +1,24 @@
 //! Finds the first line of a script that is not a command.
-ghost use Rattle.std.specs.Prelude.{◌≡◌, IfOk};
-ghost use Rattle.std.specs.Result.{result_err};
-ghost use Rattle.zarrs_script.specs.Script.{orders_of};
+ghost use Rattle.zarrs_script.specs.Parsed.{IsChecked};
 
 use crate::error::ParseError;
 use crate::parse::{command_of, is_skipped, type_after};
-use std::alloc::{AllocError, Global};
+use std::alloc::Global;
 
-/// Returns the number, from 1, of the first line of the script that is not a command. It keeps no command.
-///
-/// # Errors
-/// `AllocError`: out of memory.
-pub fn first_bad_line(alloc: Global, script: &[u8]) -> Result<Option<u64>, AllocError>
-    ensures { IfOk result (λ bad. bad ≡ result_err (orders_of script.now)) }
+/// What the lines of a script are.
+#[derive(Clone, Copy)]
+pub enum Checked {
+    /// Each of them is a command, or skipped.
+    Commands,
+    /// The first one that is not has this number, from 1.
+    BadLine(u64),
+    /// Out of memory.
+    OutOfMemory,
+}
+
+/// Parses each line of a script, and keeps no command.
+pub fn check_lines(alloc: Global, script: &[u8]) -> Checked
+    ensures { IsChecked script.now result }
 {
     let mut known = None;
     let mut number = 0u64;
@@ -23,10 +29,10 @@ pub fn first_bad_line(alloc: Global, script: &[u8]) -> Result<Option<u64>, Alloc
         }
         let command = match command_of(alloc, known, line) {
             Ok(command) => command,
-            Err(ParseError::NotACommand) => return Ok(Some(number)),
-            Err(ParseError::OutOfMemory) => return Err(AllocError),
+            Err(ParseError::NotACommand) => return Checked::BadLine(number),
+            Err(ParseError::OutOfMemory) => return Checked::OutOfMemory,
         };
         known = type_after(known, &command);
     }
-    Ok(None)
+    Checked::Commands
 }
