@@ -34,17 +34,26 @@ impl CellType {
     pub fn named(name: &[u8]) -> Option<CellType>
         ensures { result ≡ type_of name.now }
     {
-        match name {
-            b"bool" => Some(CellType::Bool),
-            b"int8" => Some(CellType::Int8),
-            b"int16" => Some(CellType::Int16),
-            b"int32" => Some(CellType::Int32),
-            b"int64" => Some(CellType::Int64),
-            b"uint8" => Some(CellType::UInt8),
-            b"uint16" => Some(CellType::UInt16),
-            b"uint32" => Some(CellType::UInt32),
-            b"uint64" => Some(CellType::UInt64),
-            _ => None,
+        if name == b"bool".as_slice() {
+            Some(CellType::Bool)
+        } else if name == b"int8".as_slice() {
+            Some(CellType::Int8)
+        } else if name == b"int16".as_slice() {
+            Some(CellType::Int16)
+        } else if name == b"int32".as_slice() {
+            Some(CellType::Int32)
+        } else if name == b"int64".as_slice() {
+            Some(CellType::Int64)
+        } else if name == b"uint8".as_slice() {
+            Some(CellType::UInt8)
+        } else if name == b"uint16".as_slice() {
+            Some(CellType::UInt16)
+        } else if name == b"uint32".as_slice() {
+            Some(CellType::UInt32)
+        } else if name == b"uint64".as_slice() {
+            Some(CellType::UInt64)
+        } else {
+            None
         }
     }
 

@@ -27,17 +27,26 @@ use zarrs_subset::ArraySubset;
 pub fn verb_of(word: &[u8]) -> Option<Verb>
     ensures { result ≡ verb_of word.now }
 {
-    match word {
-        b"array" => Some(Verb::Array),
-        b"chunk" => Some(Verb::Chunk),
-        b"read" => Some(Verb::Read),
-        b"erase" => Some(Verb::Erase),
-        b"put" => Some(Verb::Put),
-        b"get" => Some(Verb::Get),
-        b"resize" => Some(Verb::Resize),
-        b"keys" => Some(Verb::Keys),
-        b"meta" => Some(Verb::Meta),
-        _ => None,
+    if word == b"array".as_slice() {
+        Some(Verb::Array)
+    } else if word == b"chunk".as_slice() {
+        Some(Verb::Chunk)
+    } else if word == b"read".as_slice() {
+        Some(Verb::Read)
+    } else if word == b"erase".as_slice() {
+        Some(Verb::Erase)
+    } else if word == b"put".as_slice() {
+        Some(Verb::Put)
+    } else if word == b"get".as_slice() {
+        Some(Verb::Get)
+    } else if word == b"resize".as_slice() {
+        Some(Verb::Resize)
+    } else if word == b"keys".as_slice() {
+        Some(Verb::Keys)
+    } else if word == b"meta".as_slice() {
+        Some(Verb::Meta)
+    } else {
+        None
     }
 }
 
