@@ -33,6 +33,7 @@ pub fn check_lines(alloc: Global, script: &[u8]) -> Checked
             Err(ParseError::OutOfMemory) => return Checked::OutOfMemory,
         };
         known = type_after(known, &command);
+        drop(command);
     }
     Checked::Commands
 }
