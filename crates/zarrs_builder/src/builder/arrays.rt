@@ -49,25 +49,101 @@ impl ArrayBuilder {
             ≡ builder_of (metadata_of_array array.now) (meaning_of_array array.now)) }
         ensures accepted { IsOkUnless result ArrayCreateError.OutOfMemory }
     {
-        let fill_value = fill_metadata(alloc, array)?.into_fill_value(alloc)?;
-        let codecs = array.codecs();
+        let fields = copied_from(alloc, array)?;
+        let parts = parts_copied_from(alloc, array)?;
         Ok(ArrayBuilder {
-            shape: Ok(Vec::from_slice(alloc, array.shape())?),
-            chunk_grid: Ok(grid_field(alloc, array.chunk_grid())?),
-            data_type: Ok(array.data_type().try_clone(alloc)?.into_field(alloc)?),
-            fill_value: Ok(fill_value),
-            dimension_names: Ok(copied_dimension_names(alloc, array.dimension_names())?),
+            shape: Ok(fields.shape),
+            chunk_grid: Ok(fields.chunk_grid),
+            data_type: Ok(fields.data_type),
+            fill_value: Ok(fields.fill_value),
+            dimension_names: Ok(fields.dimension_names),
             subchunk_shape: Ok(None),
-            chunk_key_encoding: array.chunk_key_encoding().clone()?,
-            array_to_array_codecs: copied_codecs(alloc, codecs.array_to_array_codecs())?,
-            array_to_bytes_codec: Some(codecs.array_to_bytes_codec().try_clone(alloc)?),
+            chunk_key_encoding: parts.chunk_key_encoding,
+            array_to_array_codecs: parts.array_to_array_codecs,
+            array_to_bytes_codec: Some(parts.array_to_bytes_codec),
             bytes_to_bytes_codecs: BytesToBytesCodecs,
-            attributes: copied(array.attributes())?,
-            additional_fields: fields_of_metadata(alloc, array.metadata())?,
+            attributes: parts.attributes,
+            additional_fields: parts.additional_fields,
             storage_transformers: StorageTransformerChain,
             codec_specific_options: CodecSpecificOptions::default(),
         })
     }
+}
+
+/// What an array has of the fields that callers' values become.
+#[derive(Drop)]
+struct CopiedFields {
+    shape: ArrayShape,
+    chunk_grid: ArrayBuilderChunkGridMetadata,
+    data_type: ArrayBuilderDataType,
+    fill_value: ArrayBuilderFillValue,
+    dimension_names: Option<Vec<DimensionName>>,
+}
+
+fn copied_from<TStorage>(alloc: Global, array: &Array<TStorage>) -> Result<CopiedFields, AllocError>
+    ensures shape { IfOk result
+        (λ f. f.shape.items ≡ shape_said (metadata_of_array array.now)) }
+    ensures chunk_grid { IfOk result (λ f. grid_given f.chunk_grid
+        ≡ Some (extension_of_grid (meaning_of_array array.now).grid)) }
+    ensures data_type { IfOk result (λ f. type_given f.data_type
+        ≡ Some (meaning_of_array array.now).kind) }
+    ensures fill_value { IfOk result (λ f. fill_given f.fill_value ≡ by_metadata
+        (fill_written (meaning_of_array array.now).kind (meaning_of_array array.now).fill)) }
+    ensures names { IfOk result (λ f. option_map (λ n. map name_view n.items) f.dimension_names
+        ≡ dimension_names_of (metadata_of_array array.now)) }
+{
+    let fill_value = fill_metadata(alloc, array)?.into_fill_value(alloc)?;
+    let shape = Vec::from_slice(alloc, array.shape())?;
+    let chunk_grid = grid_field(alloc, array.chunk_grid())?;
+    let data_type = array.data_type().try_clone(alloc)?.into_field(alloc)?;
+    let dimension_names = copied_dimension_names(alloc, array.dimension_names())?;
+    Ok(CopiedFields {
+        shape,
+        chunk_grid,
+        data_type,
+        fill_value,
+        dimension_names,
+    })
+}
+
+/// What an array has of the other parts.
+#[derive(Drop)]
+struct CopiedParts {
+    chunk_key_encoding: ChunkKeyEncoding,
+    array_to_array_codecs: Vec<ArrayToArrayCodec>,
+    array_to_bytes_codec: ArrayToBytesCodec,
+    attributes: Map<String, Value>,
+    additional_fields: AdditionalFieldsV3,
+}
+
+fn parts_copied_from<TStorage>(
+    alloc: Global,
+    array: &Array<TStorage>,
+) -> Result<CopiedParts, AllocError>
+    ensures keys { IfOk result
+        (λ p. p.chunk_key_encoding ≡ (meaning_of_array array.now).keys) }
+    ensures array_codecs { IfOk result (λ p. map array_codec_data p.array_to_array_codecs.items
+        ≡ (meaning_of_array array.now).chain.array_to_array) }
+    ensures bytes_codec { IfOk result (λ p. bytes_codec_data p.array_to_bytes_codec
+        ≡ (meaning_of_array array.now).chain.array_to_bytes) }
+    ensures attributes { IfOk result (λ p. members_view p.attributes.entries
+        ≡ attributes_of (metadata_of_array array.now)) }
+    ensures fields { IfOk result (λ p. fields_view p.additional_fields.entries
+        ≡ additional_fields_of (metadata_of_array array.now)) }
+{
+    let chunk_key_encoding = array.chunk_key_encoding().clone()?;
+    let codecs = array.codecs();
+    let array_to_array_codecs = copied_codecs(alloc, codecs.array_to_array_codecs())?;
+    let array_to_bytes_codec = codecs.array_to_bytes_codec().try_clone(alloc)?;
+    let attributes = copied(array.attributes())?;
+    let additional_fields = fields_of_metadata(alloc, array.metadata())?;
+    Ok(CopiedParts {
+        chunk_key_encoding,
+        array_to_array_codecs,
+        array_to_bytes_codec,
+        attributes,
+        additional_fields,
+    })
 }
 
 /// Returns the metadata of the fill value, which is a value of the data type.
