@@ -2,7 +2,7 @@ use Rattle.std.proofs.Common.{◌≡◌, ◌==◌, ◌+◌, length, drop}
 use Rattle.std.specs.List.{slice_split}
 use Rattle.std.specs.Result.{result_err}
 use Rattle.zarrs_script.specs.Script.{orders_from, orders_of}
-use Rattle.zarrs_script.proofs.check.first_bad_line.Given as goal
+use Rattle.zarrs_script.proofs.check.check_lines.Given as goal
 
 abbrev pub invariant-loop-line : goal.invariant-loop-line
 invariant-loop-line l = record {
