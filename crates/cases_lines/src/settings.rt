@@ -32,7 +32,7 @@ pub(crate) fn setting_of<'a>(alloc: Global, line: &'a str) -> Result<Setting, Wh
 /// KEY BYTES.
 fn value_set<'a>(alloc: Global, words: &'a str) -> Result<Setting, Why<'a>> {
     let Some((name, value)) = words.split_once(" ") else {
-        return Err(Why::Bytes(words));
+        return Err(Why::Bytes(""));
     };
     let key = key(alloc, name)?;
     Ok(Setting::Set(key, Some(bytes(alloc, value)?)))

@@ -11,7 +11,7 @@ use Rattle.zarrs_script.specs.declared.error.ParseError.{ParseError}
 use Rattle.zarrs_script.specs.declared.error.ParseError.TheVariants.{NotACommand, OutOfMemory}
 use Rattle.zarrs_script.specs.Words.{each_of}
 use Rattle.zarrs_script.specs.CellTexts.{joined_cells}
-use Rattle.zarrs_script.specs.Script.{Order, lone_order}
+use Rattle.zarrs_script.specs.Script.{keys_order, meta_order}
 use Rattle.zarrs_script.specs.Parsed.{Fails}
 
 -- the word is number k of the parts
@@ -84,7 +84,12 @@ pub fails_at : (error : ParseError) (item : List ℕ → Option (List ℕ)) (fro
 fails_at NotACommand item front parts k word whole turn h so_far = sym so_far ∙ no_cell item front parts k word turn h
 fails_at OutOfMemory item front parts k word whole turn h so_far = tt
 
--- an order with a word after it is none
-pub not_alone : (order : Order) (words : List (List ℕ)) → (words ≡ [] → ⊥) → lone_order order words ≡ None
-not_alone order [] h = absurd (h refl)
-not_alone order (word ∷ words) h = refl
+-- a line with a word after its verb is no `keys` line
+pub no_keys : (words : List (List ℕ)) → (words ≡ [] → ⊥) → keys_order words ≡ None
+no_keys [] h = absurd (h refl)
+no_keys (word ∷ words) h = refl
+
+-- nor a `meta` line
+pub no_meta : (words : List (List ℕ)) → (words ≡ [] → ⊥) → meta_order words ≡ None
+no_meta [] h = absurd (h refl)
+no_meta (word ∷ words) h = refl

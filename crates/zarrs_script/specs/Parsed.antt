@@ -1,21 +1,20 @@
 -- What parsing returns.
-use Rattle.std.specs.Prelude.{◌≡◌, ◌==◌, ℕ, List, [], ◌∷◌, ◌++◌, Option, Some, None, Result, Ok, Err}
+use Rattle.std.specs.Prelude.{◌≡◌, ◌==◌, ℕ, ◌+◌, ◌^◌, nat_lt, Bool, false, List, [], ◌∷◌, ◌++◌, Option, Some, None, Result, Ok, Err}
 use Rattle.std.specs.Borrow.{Bor}
 use Rattle.std.specs.List.{slice_split}
-use Rattle.std.specs.Result.{result_err}
 use Rattle.zarrs_subset.specs.Regions.{box_of}
 use Rattle.zarrs_data_type.specs.ArrayData.{data_of}
 use Rattle.zarrs_engine_calls.specs.declared.call.Call.{Call}
 use Rattle.zarrs_engine_calls.specs.declared.call.Call.TheVariants as call
-use Rattle.zarrs_script.specs.declared.check.Checked.{Checked}
-use Rattle.zarrs_script.specs.declared.check.Checked.TheVariants as checked
 use Rattle.zarrs_script.specs.declared.command.Creation.{Creation}
 use Rattle.zarrs_script.specs.declared.command.Command.{Command}
 use Rattle.zarrs_script.specs.declared.command.Command.TheVariants as command
 use Rattle.zarrs_script.specs.declared.error.ParseError.{ParseError}
 use Rattle.zarrs_script.specs.declared.error.ParseError.TheVariants.{NotACommand, OutOfMemory}
 use Rattle.zarrs_metadata_parts.specs.Extension.{◌>>=◌}
-use Rattle.zarrs_script.specs.Script.{Order, Array, Chunk, Read, Erase, Put, Get, Resize, Keys, Meta, Other, orders_of}
+use Rattle.zarrs_script.specs.declared.cell_type.CellType.{CellType}
+use Rattle.zarrs_script.specs.Words.{number_of}
+use Rattle.zarrs_script.specs.Script.{type_after, Order, Array, Chunk, Read, Erase, Put, Get, Resize, Keys, Meta, Other}
 
 -- a text that says this is refused with this error: it says nothing, or out of memory
 abbrev pub Fails : {Y : Type 0} → ParseError → Option Y → Type 0
@@ -51,6 +50,19 @@ order_of_command (command.Call asked) = order_of_call asked
 order_of_command command.Keys = Keys
 order_of_command command.Meta = Meta
 
+-- the type of the latest array after a line, if the line says an order
+abbrev pub known_after : Option CellType → Option Order → Option CellType
+known_after known None = None
+known_after known (Some order) = type_after known order
+
+-- the words are numbers, and their sum is below 2 ^ 64
+abbrev pub is_sum : Option ℕ → Option ℕ → Bool
+is_sum (Some first) (Some extent) = nat_lt (first + extent) (2 ^ 64)
+is_sum _ _ = false
+
+abbrev pub is_range : List ℕ → List ℕ → Bool
+is_range start extent = is_sum (number_of start) (number_of extent)
+
 -- the words of a line that are still to be read
 abbrev pub words_in : Option (Bor (List ℕ)) → List (List ℕ)
 words_in None = []
@@ -70,11 +82,3 @@ TakesWord words (Err e) = (e ≡ NotACommand) × (words_in words ≡ [])
 abbrev pub TakesLastWord : Option (Bor (List ℕ)) → Result (Bor (List ℕ)) ParseError → Type 0
 TakesLastWord words (Ok word) = words_in words ≡ word.now ∷ []
 TakesLastWord words (Err e) = (e ≡ NotACommand) × ((word : List ℕ) → words_in words ≡ word ∷ [] → ⊥)
-
--- ---- a script that was checked
-
--- each line is a command, or the first one that is not has this number
-abbrev pub IsChecked : List ℕ → Checked → Type 0
-IsChecked script checked.Commands = result_err (orders_of script) ≡ None
-IsChecked script (checked.BadLine n) = result_err (orders_of script) ≡ Some n
-IsChecked script checked.OutOfMemory = Unit {0}

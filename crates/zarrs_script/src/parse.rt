@@ -6,9 +6,9 @@ ghost use Rattle.zarrs_data_type.specs.Cell.{fill_cell};
 ghost use Rattle.zarrs_script.specs.Words.{number_of, each_of, numbers_in_word, region_of};
 ghost use Rattle.zarrs_script.specs.CellTypes.{kind_of_cells};
 ghost use Rattle.zarrs_script.specs.CellTexts.{cell_of, joined_cells, cells_of, low_bytes};
-ghost use Rattle.zarrs_script.specs.CellTexts.{positive, negative};
+ghost use Rattle.zarrs_script.specs.CellTexts.{positive, negative, unsigned_cell, signed_cell};
 ghost use Rattle.zarrs_script.specs.Script.{verb_of, array_order, chunk_order, put_order};
-ghost use Rattle.zarrs_script.specs.Script.{get_order, one_list, lone_order, verb_order};
+ghost use Rattle.zarrs_script.specs.Script.{get_order, one_list, keys_order, meta_order, verb_order};
 ghost use Rattle.zarrs_script.specs.Script.{order_of, type_after, is_skipped};
 ghost use Rattle.zarrs_script.specs.Parsed.{Gives, Grows, words_in, lines_in};
 ghost use Rattle.zarrs_script.specs.Parsed.{TakesWord, TakesLastWord, order_of_command};
@@ -103,21 +103,38 @@ fn push_negative(cells: &mut Vec<u8>, cell_type: CellType, number: u64) -> Resul
     Ok(())
 }
 
+/// Adds the bytes of the cell with the number that the digits write.
+fn push_unsigned(cells: &mut Vec<u8>, cell_type: CellType, digits: &[u8]) -> Result<(), ParseError>
+    ensures { Grows result cells.old.items cells.new.items (unsigned_cell cell_type digits.now) }
+{
+    let Some(number) = number_of(digits) else {
+        return Err(ParseError::NotACommand);
+    };
+    push_positive(cells, cell_type, number)
+}
+
+/// Adds the bytes of the cell with the number below 0 that the digits write.
+fn push_signed(cells: &mut Vec<u8>, cell_type: CellType, digits: &[u8]) -> Result<(), ParseError>
+    ensures { Grows result cells.old.items cells.new.items (signed_cell cell_type digits.now) }
+{
+    let Some(number) = number_of(digits) else {
+        return Err(ParseError::NotACommand);
+    };
+    push_negative(cells, cell_type, number)
+}
+
 /// Adds the bytes of the cell that the word writes.
 #[tactic(auto, unfolding(crate::specs::CellTexts::cell_of))]
 fn push_cell(cells: &mut Vec<u8>, cell_type: CellType, word: &[u8]) -> Result<(), ParseError>
     ensures { Grows result cells.old.items cells.new.items (cell_of cell_type word.now) }
 {
-    match word {
-        [] => Err(ParseError::NotACommand),
-        [b'-', digits @ ..] => match number_of(digits) {
-            Some(number) => push_negative(cells, cell_type, number),
-            None => Err(ParseError::NotACommand),
-        },
-        _ => match number_of(word) {
-            Some(number) => push_positive(cells, cell_type, number),
-            None => Err(ParseError::NotACommand),
-        },
+    let Some((first, digits)) = word.split_first() else {
+        return Err(ParseError::NotACommand);
+    };
+    if *first == b'-' {
+        push_signed(cells, cell_type, digits)
+    } else {
+        push_unsigned(cells, cell_type, word)
     }
 }
 
@@ -295,13 +312,20 @@ fn one_list(alloc: Global, words: Option<&[u8]>) -> Result<Vec<u64>, ParseError>
     numbers_in_word(alloc, numbers)
 }
 
-/// Returns the command of a line that has no more words.
-fn lone_command(words: Option<&[u8]>, command: Command) -> Result<Command, ParseError>
-    ensures { Gives order_of_command result
-        (lone_order (order_of_command command) (words_in words.entry)) }
+fn keys_command(words: Option<&[u8]>) -> Result<Command, ParseError>
+    ensures { Gives order_of_command result (keys_order (words_in words.entry)) }
 {
     match words {
-        None => Ok(command),
+        None => Ok(Command::Keys),
+        Some(_) => Err(ParseError::NotACommand),
+    }
+}
+
+fn meta_command(words: Option<&[u8]>) -> Result<Command, ParseError>
+    ensures { Gives order_of_command result (meta_order (words_in words.entry)) }
+{
+    match words {
+        None => Ok(Command::Meta),
         Some(_) => Err(ParseError::NotACommand),
     }
 }
@@ -324,8 +348,8 @@ fn verb_command(
         (Verb::Put, Some(cell_type)) => put_command(alloc, cell_type, words),
         (Verb::Get, Some(_)) => get_command(alloc, words),
         (Verb::Resize, Some(_)) => Ok(Command::Call(Call::Resize(one_list(alloc, words)?))),
-        (Verb::Keys, Some(_)) => lone_command(words, Command::Keys),
-        (Verb::Meta, Some(_)) => lone_command(words, Command::Meta),
+        (Verb::Keys, Some(_)) => keys_command(words),
+        (Verb::Meta, Some(_)) => meta_command(words),
     }
 }
 

@@ -8,7 +8,7 @@ ghost use Rattle.zarrs_script.specs.Answers.{IsAnswer, ReadsAll, WritesText};
 ghost use Rattle.zarrs_script.specs.Sessions.{opened, session_of, Prints, Puts, HasRun};
 
 use crate::array::OpenArray;
-use crate::check::{Checked, check_lines};
+use crate::check::first_bad_line;
 use crate::command::{Command, Creation};
 use crate::error::{CreationError, ParseError, Stopped};
 use crate::parse::{command_of, is_skipped, next_line, type_after};
@@ -173,18 +173,13 @@ fn answer<W: Write>(alloc: Global, writer: &mut W, script: &[u8]) -> Result<u8, 
     ensures { IfOk result (λ status. WritesText (W.contents writer.old) (W.contents writer.new)
         (λ text. IsAnswer script.now text status)) }
 {
-    match check_lines(alloc, script) {
-        Checked::Commands => {
-            let refused = run_lines(alloc, writer, script)?;
-            Ok(u8::from(refused))
-        }
-        Checked::BadLine(number) => {
-            let text = complaint(alloc, number)?;
-            writer.write_all(&text)?;
-            Ok(2)
-        }
-        Checked::OutOfMemory => Err(Stopped),
+    if let Some(number) = first_bad_line(script) {
+        let text = complaint(alloc, number)?;
+        writer.write_all(&text)?;
+        return Ok(2);
     }
+    let refused = run_lines(alloc, writer, script)?;
+    Ok(u8::from(refused))
 }
 
 /// Reads the whole script, and writes what it prints.
