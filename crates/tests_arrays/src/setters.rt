@@ -11,7 +11,7 @@ use zarrs::{
     DataType, DimensionName, FillValue, FillValueMetadata, IntoField, MetadataV3,
     RegularBoundedChunkGrid, StorageTransformerChain,
 };
-use zarrs_builder::{ArrayBuilder, ArrayBuilderChunkGridMetadata, ArrayBuilderFillValue};
+use zarrs_builder::{ArrayBuilder, ArrayBuilderChunkGridMetadata, IntoFillValue};
 
 fn set_cells(alloc: Global, builder: &mut ArrayBuilder) {
     builder
@@ -204,7 +204,7 @@ fn grids_by_their_sizes_and_by_texts(rt: HostRuntime) {
 }
 
 /// The fill value of cells of this data type, as it is written.
-fn must_fill<F: IntoField<ArrayBuilderFillValue>>(
+fn must_fill<F: IntoFillValue>(
     rt: &impl Abort,
     alloc: Global,
     data_type: &str,

@@ -1,5 +1,8 @@
 -- Fields that values become.
-use Rattle.std.proofs.Common.{◌≡◌, ℕ, List, Some, Option, Result, Ok, Err, refl}
+use Rattle.std.proofs.Common.{◌≡◌, ℕ, ◌+◌, ◌<◌, List, [], ◌∷◌, ◌++◌, length, take, get_or, Some, Option, Result, Ok, Err, refl}
+use Rattle.std.specs.List.{AllZip}
+use Rattle.std.proofs.lemmas.List.{take_more}
+use Rattle.std.proofs.lemmas.Slice.Zip.{all_zipped_more}
 use Rattle.std.specs.Prelude.{IfOk, IfSome, option_map}
 use Rattle.std.specs.Result.{result_ok}
 use Rattle.serde_json.specs.Data.{Members}
@@ -24,6 +27,10 @@ of_ok (Err e) f b is = tt
 -- a field that found memory
 pub found_ok : {A B E : Type 0} (r : Result A E) (f : A → B) (a : A) → r ≡ Ok a → option_map f (result_ok r) ≡ Some (f a)
 found_ok r f a is = rw is refl
+
+-- one more pair of two lists
+pub zip_more : {A B : Type 0} (R : A → B → Type 0) (xs : List A) (ys : List B) (i : ℕ) (x : A) (y : B) → i < length xs → x ≡ get_or xs i x → AllZip R (take i xs) ys → R x y → AllZip R (take (i + 1) xs) (ys ++ y ∷ [])
+zip_more R xs ys i x y lt is all one = rw (take_more xs i x lt, ← is) (all_zipped_more R (take i xs) ys x y all one)
 
 -- two builders of the same parts
 pub same_parts : (s t : Option (List ℕ)) (g h : Option (Option ExtensionData)) (k l : Option (Option Kind)) (f e : Option FillData) (n o : Option (Option (List (Option (List ℕ))))) (keys others : ChunkKeyEncoding) (a b : List ArrayCodecData) (c d : Option BytesCodecData) (attributes more : Members) (fields rest : List (List ℕ × FieldData)) (sub cut : Option (Option (List ℕ))) (options choices : CodecSpecificOptions)

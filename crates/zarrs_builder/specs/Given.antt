@@ -1,8 +1,10 @@
 -- What callers give for the data type, the fill value and the names of dimensions of a builder.
-use Rattle.std.specs.Prelude.{ℕ, List, Option, Some, Result, Ok, string_bytes, option_and_then}
+use Rattle.std.specs.Prelude.{◌≡◌, ℕ, List, Option, Some, Result, Ok, string_bytes, option_and_then}
 use Rattle.std.specs.List.{AllZip}
 use Rattle.std.specs.Iterator.{Drains}
-use Rattle.serde_json.specs.Data.{Data}
+use Rattle.serde_json.specs.Data.{Data, array}
+use Rattle.serde_json.specs.View.{view, items_view}
+use Rattle.serde_json.specs.declared.value.Value.{Value}
 use Rattle.zarrs_metadata_parts.specs.Extension.{extension_view}
 use Rattle.zarrs_metadata_parts.specs.FillValue.{fill_data}
 use Rattle.zarrs_data_type.specs.FillMetadata.{fill_said}
@@ -47,6 +49,16 @@ fill_given f = filling_given f.given
 abbrev pub fill_chosen : Kind → FillData → Result (List ℕ) CreateRefusal
 fill_chosen k (by_bytes f) = Ok f
 fill_chosen k (by_metadata d) = said_or (fill_value_metadata (kind_name k) d) (fill_said k d)
+
+-- the field is metadata: a JSON value that a value converts to
+abbrev pub SaysJson : (Value → Type 0) → ArrayBuilderFillValue → Type 0
+SaysJson converts field = (value : Value) × converts value × (fill_given field ≡ by_metadata (view value))
+
+-- the field is metadata: a list of JSON values that these convert to
+pub record SaysList {T : Type 0} (converts : T → Value → Type 0) (items : List T) (field : ArrayBuilderFillValue) : Type 0 where
+  pub values : List Value
+  pub each : AllZip converts items values
+  pub is : fill_given field ≡ by_metadata (array (items_view values))
 
 -- ---- names of dimensions
 

@@ -4,7 +4,7 @@ mod building;
 mod setters;
 
 use crate::data_type::ArrayBuilderDataType;
-use crate::fill_value::ArrayBuilderFillValue;
+use crate::fill_value::{ArrayBuilderFillValue, IntoFillValue};
 pub use arrays::ToBuilder;
 use serde_json::{Map, Value};
 use std::alloc::{AllocError, Global};
@@ -52,7 +52,7 @@ impl ArrayBuilder {
         S: IntoField<ArrayShape>,
         G: IntoField<ArrayBuilderChunkGridMetadata>,
         D: IntoField<ArrayBuilderDataType>,
-        F: IntoField<ArrayBuilderFillValue>,
+        F: IntoFillValue,
     >(alloc: Global, shape: S, chunk_grid_metadata: G, data_type: D, fill_value: F) -> ArrayBuilder
         ensures shape { IfOk (shape_of result) (S.gives shape) }
         ensures chunk_grid { IfOk (chunk_grid_of result) (G.gives chunk_grid_metadata) }
@@ -64,7 +64,7 @@ impl ArrayBuilder {
             shape: shape.into_field(alloc),
             chunk_grid: chunk_grid_metadata.into_field(alloc),
             data_type: data_type.into_field(alloc),
-            fill_value: fill_value.into_field(alloc),
+            fill_value: fill_value.into_fill_value(alloc),
             dimension_names: Ok(None),
             subchunk_shape: Ok(None),
             chunk_key_encoding: ChunkKeyEncoding::Default(ChunkKeySeparator::Slash),
@@ -82,7 +82,7 @@ impl ArrayBuilder {
     pub fn new_with_chunk_grid<
         G: Into<ChunkGrid>,
         D: IntoField<ArrayBuilderDataType>,
-        F: IntoField<ArrayBuilderFillValue>,
+        F: IntoFillValue,
     >(alloc: Global, chunk_grid: G, data_type: D, fill_value: F) -> ArrayBuilder
         ensures grid { HasGrid (G.converts chunk_grid) (builder_view result) }
         ensures data_type { IfOk (data_type_of result) (D.gives data_type) }
@@ -94,7 +94,7 @@ impl ArrayBuilder {
             shape: Vec::from_slice(alloc, chunk_grid.array_shape()),
             chunk_grid: grid_field(alloc, &chunk_grid),
             data_type: data_type.into_field(alloc),
-            fill_value: fill_value.into_field(alloc),
+            fill_value: fill_value.into_fill_value(alloc),
             dimension_names: Ok(None),
             subchunk_shape: Ok(None),
             chunk_key_encoding: ChunkKeyEncoding::Default(ChunkKeySeparator::Slash),

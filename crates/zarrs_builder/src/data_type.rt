@@ -44,21 +44,11 @@ impl ArrayBuilderDataType {
         match &self.given {
             GivenType::DataType(data_type) => Ok(data_type.try_clone(alloc)?),
             GivenType::Metadata(metadata) => data_type_from(alloc, metadata),
-            GivenType::Text(text) => type_of_text(alloc, text.as_str()),
+            GivenType::Text(text) => match extension_of_text(alloc, text.as_str())? {
+                Some(metadata) => data_type_from(alloc, &metadata),
+                None => Err(no_metadata(alloc)),
+            },
         }
-    }
-}
-
-fn type_of_text(alloc: Global, text: &str) -> Result<DataType, ArrayCreateError>
-    ensures made { IfOk result
-        (λ t. option_and_then kind_of (extension_of_text text.now) ≡ Some (kind t)) }
-    ensures refused { IfErr result (λ e. RefusesCreation
-        (said_or refusal.data_type (option_and_then kind_of (extension_of_text text.now)))
-        (create_refusal_of e)) }
-{
-    match extension_of_text(alloc, text)? {
-        Some(metadata) => data_type_from(alloc, &metadata),
-        None => Err(no_metadata(alloc)),
     }
 }
 

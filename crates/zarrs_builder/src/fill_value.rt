@@ -1,20 +1,19 @@
 //! The fill value of a builder, as a caller may give it.
-ghost use Rattle.std.specs.Prelude.{◌≡◌, None, Ok, IfOk, IfErr, IsOk, string_bytes};
-ghost use Rattle.serde_json.specs.Data.{boolean, number, string, unsigned};
-ghost use Rattle.serde_json.specs.Find.{of_integer};
+ghost use Rattle.std.specs.Prelude.{◌≡◌, None, Ok, IfOk, IfErr, IsOk};
+ghost use Rattle.serde_json.specs.Data.{string};
 ghost use Rattle.serde_json.specs.View.{view};
 ghost use Rattle.zarrs_metadata_parts.specs.FillValue.{fill_data};
-ghost use Rattle.zarrs_metadata_parts.specs.Lists.{list_data};
 ghost use Rattle.zarrs_data_type.specs.Kind.{kind};
 ghost use Rattle.zarrs_data_type.specs.TypeMetadata.{kind_name};
 ghost use Rattle.zarrs_options.specs.Refusals.{RefusesCreation, create_refusal_of, said_or};
 ghost use Rattle.zarrs_options.specs.Refusals as refusal;
 ghost use Rattle.zarrs_builder.specs.Given.{fill_chosen, by_bytes, by_metadata, fill_given};
+ghost use Rattle.zarrs_builder.specs.Given.{SaysJson, SaysList};
+ghost use Rattle.zarrs_builder.specs.declared.fill_value.ArrayBuilderFillValue.{ArrayBuilderFillValue};
 
-use crate::numbers::{FillNumber, list_value};
 use serde_json::Value;
 use std::alloc::{AllocError, Global};
-use zarrs_data_type::{DataType, DataTypeFillValueMetadataError, FillValue, IntoField};
+use zarrs_data_type::{DataType, DataTypeFillValueMetadataError, FillValue};
 use zarrs_metadata::FillValueMetadata;
 use zarrs_options::ArrayCreateError;
 
@@ -61,6 +60,19 @@ impl ArrayBuilderFillValue {
             given: GivenFill::Metadata(FillValueMetadata::from_value(value)),
         }
     }
+
+    fn of_list<T: FillScalar + Copy>(
+        alloc: Global,
+        items: &[T],
+    ) -> Result<ArrayBuilderFillValue, AllocError>
+        ensures { IfOk result (SaysList T.converts items.now) }
+    {
+        let mut values = Vec::with_capacity(alloc, items.len())?;
+        for item in items {
+            values.push((*item).into())?;
+        }
+        Ok(ArrayBuilderFillValue::of_value(Value::Array(values)))
+    }
 }
 
 fn value_of_metadata(
@@ -105,21 +117,34 @@ fn invalid_metadata(
     }
 }
 
-impl IntoField<ArrayBuilderFillValue> for ArrayBuilderFillValue {
+/// A value that becomes the fill value of a builder, in memory of the allocator.
+pub trait IntoFillValue {
+    // Holds of a value and each fill value that it may become.
+    ghost gives: { Self → ArrayBuilderFillValue → Type 0 };
+
+    /// The fill value.
+    ///
+    /// # Errors
+    /// `AllocError`: out of memory.
+    fn into_fill_value(self, alloc: Global) -> Result<ArrayBuilderFillValue, AllocError>
+        ensures { IfOk result (gives self) };
+}
+
+impl IntoFillValue for ArrayBuilderFillValue {
     ghost gives = { λ value field. fill_given field ≡ fill_given value };
 
-    fn into_field(self, _alloc: Global) -> Result<ArrayBuilderFillValue, AllocError>
+    fn into_fill_value(self, _alloc: Global) -> Result<ArrayBuilderFillValue, AllocError>
         ensures { result ≡ Ok self }
     {
         Ok(self)
     }
 }
 
-impl IntoField<ArrayBuilderFillValue> for FillValue {
+impl IntoFillValue for FillValue {
     ghost gives = { λ value field. fill_given field ≡ by_bytes value };
 
-    fn into_field(self, _alloc: Global) -> Result<ArrayBuilderFillValue, AllocError>
-        ensures field { IfOk result (λ field. fill_given field ≡ by_bytes self) }
+    fn into_fill_value(self, _alloc: Global) -> Result<ArrayBuilderFillValue, AllocError>
+        ensures given { IfOk result (λ field. fill_given field ≡ by_bytes self) }
         ensures made { IsOk result }
     {
         Ok(ArrayBuilderFillValue {
@@ -128,11 +153,11 @@ impl IntoField<ArrayBuilderFillValue> for FillValue {
     }
 }
 
-impl IntoField<ArrayBuilderFillValue> for FillValueMetadata {
-    ghost gives = { λ value field. fill_given field ≡ by_metadata (fill_data value) };
+impl IntoFillValue for FillValueMetadata {
+    ghost gives = { λ metadata field. fill_given field ≡ by_metadata (fill_data metadata) };
 
-    fn into_field(self, _alloc: Global) -> Result<ArrayBuilderFillValue, AllocError>
-        ensures field { IfOk result (λ field. fill_given field ≡ by_metadata (fill_data self)) }
+    fn into_fill_value(self, _alloc: Global) -> Result<ArrayBuilderFillValue, AllocError>
+        ensures given { IfOk result (λ field. fill_given field ≡ by_metadata (fill_data self)) }
         ensures made { IsOk result }
     {
         Ok(ArrayBuilderFillValue {
@@ -141,164 +166,77 @@ impl IntoField<ArrayBuilderFillValue> for FillValueMetadata {
     }
 }
 
-impl IntoField<ArrayBuilderFillValue> for bool {
-    ghost gives = { λ value field. fill_given field ≡ by_metadata (boolean value) };
-
-    fn into_field(self, _alloc: Global) -> Result<ArrayBuilderFillValue, AllocError>
-        ensures field { IfOk result (λ field. fill_given field ≡ by_metadata (boolean self)) }
-        ensures made { IsOk result }
-    {
-        Ok(ArrayBuilderFillValue::of_value(Value::Bool(self)))
-    }
-}
-
-impl IntoField<ArrayBuilderFillValue> for String {
-    ghost gives = { λ text field. fill_given field ≡ by_metadata (string (string_bytes text)) };
-
-    fn into_field(self, _alloc: Global) -> Result<ArrayBuilderFillValue, AllocError>
-        ensures field { IfOk result (λ field. fill_given field
-            ≡ by_metadata (string (string_bytes self))) }
-        ensures made { IsOk result }
-    {
-        Ok(ArrayBuilderFillValue::of_value(Value::String(self)))
-    }
-}
-
-impl IntoField<ArrayBuilderFillValue> for &str {
+impl IntoFillValue for &str {
     ghost gives = { λ text field. fill_given field ≡ by_metadata (string text.now) };
 
-    fn into_field(self, alloc: Global) -> Result<ArrayBuilderFillValue, AllocError> {
+    fn into_fill_value(self, alloc: Global) -> Result<ArrayBuilderFillValue, AllocError> {
         Ok(ArrayBuilderFillValue::of_value(Value::try_from_str(alloc, self)?))
     }
 }
 
-impl IntoField<ArrayBuilderFillValue> for u8 {
-    ghost gives = { λ value field. fill_given field ≡ by_metadata (number (unsigned value)) };
+/// A value that becomes a JSON value without memory, which may be a fill value. Those that are copied may be in a list
+/// that is one.
+pub trait FillScalar: Into<Value> {}
 
-    fn into_field(self, _alloc: Global) -> Result<ArrayBuilderFillValue, AllocError>
-        ensures field { IfOk result (λ field. fill_given field
-            ≡ by_metadata (number (unsigned self))) }
+impl FillScalar for bool {}
+
+impl FillScalar for String {}
+
+impl FillScalar for u8 {}
+
+impl FillScalar for u16 {}
+
+impl FillScalar for u32 {}
+
+impl FillScalar for u64 {}
+
+impl FillScalar for i8 {}
+
+impl FillScalar for i16 {}
+
+impl FillScalar for i32 {}
+
+impl FillScalar for i64 {}
+
+impl<T: FillScalar> IntoFillValue for T {
+    ghost gives = { λ value field. SaysJson (T.converts value) field };
+
+    fn into_fill_value(self, _alloc: Global) -> Result<ArrayBuilderFillValue, AllocError>
+        ensures given { IfOk result (SaysJson (T.converts self)) }
         ensures made { IsOk result }
     {
-        Ok(ArrayBuilderFillValue::of_value(self.to_json()))
+        Ok(ArrayBuilderFillValue::of_value(self.into()))
     }
 }
 
-impl IntoField<ArrayBuilderFillValue> for u16 {
-    ghost gives = { λ value field. fill_given field ≡ by_metadata (number (unsigned value)) };
+impl<T: FillScalar + Copy> IntoFillValue for Vec<T> {
+    ghost gives = { λ items field. SaysList T.converts items.items field };
 
-    fn into_field(self, _alloc: Global) -> Result<ArrayBuilderFillValue, AllocError>
-        ensures field { IfOk result (λ field. fill_given field
-            ≡ by_metadata (number (unsigned self))) }
-        ensures made { IsOk result }
-    {
-        Ok(ArrayBuilderFillValue::of_value(self.to_json()))
+    fn into_fill_value(self, alloc: Global) -> Result<ArrayBuilderFillValue, AllocError> {
+        ArrayBuilderFillValue::of_list(alloc, &self)
     }
 }
 
-impl IntoField<ArrayBuilderFillValue> for u32 {
-    ghost gives = { λ value field. fill_given field ≡ by_metadata (number (unsigned value)) };
+impl<T: FillScalar + Copy> IntoFillValue for &[T] {
+    ghost gives = { λ items field. SaysList T.converts items.now field };
 
-    fn into_field(self, _alloc: Global) -> Result<ArrayBuilderFillValue, AllocError>
-        ensures field { IfOk result (λ field. fill_given field
-            ≡ by_metadata (number (unsigned self))) }
-        ensures made { IsOk result }
-    {
-        Ok(ArrayBuilderFillValue::of_value(self.to_json()))
+    fn into_fill_value(self, alloc: Global) -> Result<ArrayBuilderFillValue, AllocError> {
+        ArrayBuilderFillValue::of_list(alloc, self)
     }
 }
 
-impl IntoField<ArrayBuilderFillValue> for u64 {
-    ghost gives = { λ value field. fill_given field ≡ by_metadata (number (unsigned value)) };
+impl<T: FillScalar + Copy, const N: usize> IntoFillValue for [T; N] {
+    ghost gives = { λ items field. SaysList T.converts items field };
 
-    fn into_field(self, _alloc: Global) -> Result<ArrayBuilderFillValue, AllocError>
-        ensures field { IfOk result (λ field. fill_given field
-            ≡ by_metadata (number (unsigned self))) }
-        ensures made { IsOk result }
-    {
-        Ok(ArrayBuilderFillValue::of_value(self.to_json()))
+    fn into_fill_value(self, alloc: Global) -> Result<ArrayBuilderFillValue, AllocError> {
+        ArrayBuilderFillValue::of_list(alloc, &self)
     }
 }
 
-impl IntoField<ArrayBuilderFillValue> for i8 {
-    ghost gives = { λ value field. fill_given field ≡ by_metadata (number (of_integer value)) };
+impl<T: FillScalar + Copy, const N: usize> IntoFillValue for &[T; N] {
+    ghost gives = { λ items field. SaysList T.converts items.now field };
 
-    fn into_field(self, _alloc: Global) -> Result<ArrayBuilderFillValue, AllocError>
-        ensures field { IfOk result (λ field. fill_given field
-            ≡ by_metadata (number (of_integer self))) }
-        ensures made { IsOk result }
-    {
-        Ok(ArrayBuilderFillValue::of_value(self.to_json()))
-    }
-}
-
-impl IntoField<ArrayBuilderFillValue> for i16 {
-    ghost gives = { λ value field. fill_given field ≡ by_metadata (number (of_integer value)) };
-
-    fn into_field(self, _alloc: Global) -> Result<ArrayBuilderFillValue, AllocError>
-        ensures field { IfOk result (λ field. fill_given field
-            ≡ by_metadata (number (of_integer self))) }
-        ensures made { IsOk result }
-    {
-        Ok(ArrayBuilderFillValue::of_value(self.to_json()))
-    }
-}
-
-impl IntoField<ArrayBuilderFillValue> for i32 {
-    ghost gives = { λ value field. fill_given field ≡ by_metadata (number (of_integer value)) };
-
-    fn into_field(self, _alloc: Global) -> Result<ArrayBuilderFillValue, AllocError>
-        ensures field { IfOk result (λ field. fill_given field
-            ≡ by_metadata (number (of_integer self))) }
-        ensures made { IsOk result }
-    {
-        Ok(ArrayBuilderFillValue::of_value(self.to_json()))
-    }
-}
-
-impl IntoField<ArrayBuilderFillValue> for i64 {
-    ghost gives = { λ value field. fill_given field ≡ by_metadata (number (of_integer value)) };
-
-    fn into_field(self, _alloc: Global) -> Result<ArrayBuilderFillValue, AllocError>
-        ensures field { IfOk result (λ field. fill_given field
-            ≡ by_metadata (number (of_integer self))) }
-        ensures made { IsOk result }
-    {
-        Ok(ArrayBuilderFillValue::of_value(self.to_json()))
-    }
-}
-
-impl<T: FillNumber> IntoField<ArrayBuilderFillValue> for Vec<T> {
-    ghost gives = { λ numbers field. fill_given field
-        ≡ by_metadata (list_data T.json numbers.items) };
-
-    fn into_field(self, alloc: Global) -> Result<ArrayBuilderFillValue, AllocError> {
-        Ok(ArrayBuilderFillValue::of_value(list_value(alloc, &self)?))
-    }
-}
-
-impl<T: FillNumber> IntoField<ArrayBuilderFillValue> for &[T] {
-    ghost gives = { λ numbers field. fill_given field
-        ≡ by_metadata (list_data T.json numbers.now) };
-
-    fn into_field(self, alloc: Global) -> Result<ArrayBuilderFillValue, AllocError> {
-        Ok(ArrayBuilderFillValue::of_value(list_value(alloc, self)?))
-    }
-}
-
-impl<T: FillNumber, const N: usize> IntoField<ArrayBuilderFillValue> for [T; N] {
-    ghost gives = { λ numbers field. fill_given field ≡ by_metadata (list_data T.json numbers) };
-
-    fn into_field(self, alloc: Global) -> Result<ArrayBuilderFillValue, AllocError> {
-        Ok(ArrayBuilderFillValue::of_value(list_value(alloc, &self)?))
-    }
-}
-
-impl<T: FillNumber, const N: usize> IntoField<ArrayBuilderFillValue> for &[T; N] {
-    ghost gives = { λ numbers field. fill_given field
-        ≡ by_metadata (list_data T.json numbers.now) };
-
-    fn into_field(self, alloc: Global) -> Result<ArrayBuilderFillValue, AllocError> {
-        Ok(ArrayBuilderFillValue::of_value(list_value(alloc, self)?))
+    fn into_fill_value(self, alloc: Global) -> Result<ArrayBuilderFillValue, AllocError> {
+        ArrayBuilderFillValue::of_list(alloc, self)
     }
 }

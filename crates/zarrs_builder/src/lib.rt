@@ -2,7 +2,7 @@
 //!
 //! Callers use `ArrayBuilder`: `build` makes an `Array`, and `build_metadata` its metadata. `ToBuilder` makes a
 //! builder from an array. `ArrayBuilderDataType` and `ArrayBuilderFillValue` hold a field in any form that a caller
-//! gives it.
+//! gives it; `IntoFillValue` says which forms a fill value has.
 //!
 //! `builder_view` of `specs/Builders.antt` gives the `BuilderData` of a builder. `built` of `specs/Built.antt` is at
 //! once the metadata that it says and the order of refusals. `built_at` there is the parts of the array at a path, or
@@ -14,10 +14,8 @@ mod copies;
 mod data_type;
 mod fill_value;
 mod names;
-mod numbers;
 
 pub use builder::{ArrayBuilder, ToBuilder};
 pub use data_type::ArrayBuilderDataType;
-pub use fill_value::ArrayBuilderFillValue;
-pub use numbers::FillNumber;
+pub use fill_value::{ArrayBuilderFillValue, FillScalar, IntoFillValue};
 pub use zarrs_options::ArrayBuilderChunkGridMetadata;

@@ -18,7 +18,7 @@ ghost use Rattle.zarrs_builder.specs.declared.builder.ArrayBuilder.{ArrayBuilder
 use super::{ArrayBuilder, grid_field};
 use crate::copies::{copied_codecs, copied_dimension_names, copied_fields};
 use crate::data_type::ArrayBuilderDataType;
-use crate::fill_value::ArrayBuilderFillValue;
+use crate::fill_value::{ArrayBuilderFillValue, IntoFillValue};
 use serde_json::{Map, Value};
 use std::alloc::{AllocError, Global};
 use zarrs::Array;
@@ -92,7 +92,7 @@ fn copied_from<TStorage>(alloc: Global, array: &Array<TStorage>) -> Result<Copie
     ensures names { IfOk result (λ f. option_map (λ n. map name_view n.items) f.dimension_names
         ≡ dimension_names_of (metadata_of_array array.now)) }
 {
-    let fill_value = fill_metadata(alloc, array)?.into_field(alloc)?;
+    let fill_value = fill_metadata(alloc, array)?.into_fill_value(alloc)?;
     let shape = Vec::from_slice(alloc, array.shape())?;
     let chunk_grid = grid_field(alloc, array.chunk_grid())?;
     let data_type = array.data_type().try_clone(alloc)?.into_field(alloc)?;

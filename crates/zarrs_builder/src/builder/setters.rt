@@ -1,7 +1,7 @@
 //! Setters of a builder: each replaces its part and keeps the others.
 use super::{ArrayBuilder, grid_field};
 use crate::data_type::ArrayBuilderDataType;
-use crate::fill_value::ArrayBuilderFillValue;
+use crate::fill_value::IntoFillValue;
 use crate::names::given_names;
 use serde_json::{Map, Value};
 use std::alloc::Global;
@@ -88,18 +88,14 @@ impl ArrayBuilder {
     }
 
     /// Sets the fill value.
-    pub fn fill_value<F: IntoField<ArrayBuilderFillValue>>(
-        &mut self,
-        alloc: Global,
-        fill_value: F,
-    ) -> &mut Self
+    pub fn fill_value<F: IntoFillValue>(&mut self, alloc: Global, fill_value: F) -> &mut Self
         ensures same_loan { result.ghost_name ≡ self.entry.ghost_name }
         ensures set { IfOk (fill_value_of result.now) (F.gives fill_value) }
         ensures kept { builder_view result.now ≡ record (builder_view self.old) {
           fill_value = (builder_view result.now).fill_value;
         } }
     {
-        self.fill_value = fill_value.into_field(alloc);
+        self.fill_value = fill_value.into_fill_value(alloc);
         self
     }
 
