@@ -4,7 +4,9 @@ ghost use Rattle.zarrs_data_type.specs.ArrayData.{data_of};
 ghost use Rattle.zarrs_subset.specs.Regions.{box_of};
 ghost use Rattle.zarrs.specs.Arrays.{layout_of_array};
 ghost use Rattle.zarrs_directory.specs.Directory.{directory_of};
+ghost use Rattle.zarr_cells.specs.Forms.{rows_of};
 ghost use Rattle.zarr_arrays.specs.Reading.{ReadsCells};
+ghost use Rattle.zarr_arrays.specs.Storing.{StoresCells};
 
 use crate::calls::{compact_chunk, retrieve_cells, store_cells, upgrade};
 use crate::reading::{outside, read_chunk, read_chunks, read_parts};
@@ -115,7 +117,9 @@ impl<'r> Opened<'r> {
     }
 
     /// Returns rows of so many cells, if the cells are numbers or bools.
-    pub fn rows(&self, width: u64) -> Option<Rows> {
+    pub fn rows(&self, width: u64) -> Option<Rows>
+        ensures { result ≡ rows_of (layout_of_array self.now.array).kind self.now.lens.floats width }
+    {
         let data_type = self.array.data_type();
         let form = form_of(data_type, self.lens.floats)?;
         let size = data_type.element_size()?;
@@ -181,11 +185,16 @@ impl<'r> Opened<'r> {
         alloc: Global,
         region: &ArraySubset,
         cells: ArrayBytes<'_>,
-    ) -> Result<(), Refusal> {
+    ) -> Result<(), Refusal>
+        ensures stored { OnOk result (StoresCells (layout_of_array self.old.array)
+            (box_of region.now) (data_of cells.entry) self.old.store self.new.store) }
+        ensures array { self.new.array ≡ self.old.array }
+    {
         self.store.forget();
         read_parts(&self.array, &mut self.store, alloc, region)?;
         let options = self.options();
-        store_cells(&self.array, alloc, &mut self.store, region, cells, &options)
+        store_cells(&self.array, alloc, &mut self.store, region, cells, &options)?;
+        Ok(())
     }
 
     /// Compacts the chunk with these indices, of which there is one for each dimension. Returns whether it was not compact.
