@@ -7,7 +7,7 @@ const ABOUT: &str =
 
 /// A command.
 #[derive(Clone, Copy, Debug, PartialEq, Eq)]
-pub(crate) enum Command {
+pub enum Command {
     Info,
     Get,
     Put,
@@ -23,9 +23,9 @@ pub(crate) enum Command {
 
 /// How a command is used.
 #[derive(Clone, Copy, Debug)]
-pub(crate) struct Usage {
-    pub(crate) command: Command,
-    pub(crate) name: &'static str,
+pub struct Usage {
+    pub command: Command,
+    pub name: &'static str,
     about: &'static str,
     /// The words that stand in their places; one with `?` may be left out.
     places: &'static str,
@@ -122,7 +122,7 @@ const USAGES: [Usage; 11] = [
 ];
 
 /// Returns how the command of this name is used.
-pub(crate) fn usage_of(name: &str) -> Option<Usage> {
+pub fn usage_of(name: &str) -> Option<Usage> {
     for usage in &USAGES {
         if usage.name == name {
             return Some(*usage);
@@ -188,7 +188,7 @@ impl Usage {
     }
 
     /// Returns a line that says the words of the command.
-    pub(crate) fn line(&self, alloc: Global) -> Result<String, AllocError> {
+    pub fn line(&self, alloc: Global) -> Result<String, AllocError> {
         let mut line = format!(in alloc; "zarr {}", self.name)?;
         for said in self.places.split_ascii_whitespace() {
             match place_said(said) {
@@ -215,13 +215,13 @@ fn write_word(line: &mut String, before: &str, name: &str, behind: &str) -> Resu
 }
 
 /// Returns what the command does, and its words.
-pub(crate) fn command_help(alloc: Global, usage: &Usage) -> Result<String, AllocError> {
+pub fn command_help(alloc: Global, usage: &Usage) -> Result<String, AllocError> {
     let line = usage.line(alloc)?;
     format!(in alloc; "{}\n\nUsage: {line}", usage.about)
 }
 
 /// Returns what the program is, and its commands.
-pub(crate) fn program_help(alloc: Global) -> Result<String, AllocError> {
+pub fn program_help(alloc: Global) -> Result<String, AllocError> {
     let mut text = format!(in alloc; "{ABOUT}\n\nUsage: zarr <command>\n\nCommands:")?;
     for usage in &USAGES {
         let line = usage.line(alloc)?;

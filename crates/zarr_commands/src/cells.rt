@@ -1,11 +1,11 @@
 //! `get`, `put`, `upgrade` and `compact`.
-use crate::words::Given;
 use std::alloc::Global;
 use std::fs;
 use std::io::{self, BufReader, BufWriter, Read, Write};
 use zarr_arrays::{Opened, Refusal, present_chunks};
 use zarr_cells::region;
 use zarr_regions::{Layout, store_cells, write_cells};
+use zarr_words::Given;
 use zarrs::ArraySubset;
 
 /// Returns the region that the words say, or that of all cells.

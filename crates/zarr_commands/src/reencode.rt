@@ -1,8 +1,8 @@
 //! `reencode`.
 use crate::create::{numbers_given, store_new};
-use crate::words::Given;
 use std::alloc::Global;
 use zarr_arrays::{Bands, Opened, Refusal, open};
+use zarr_words::Given;
 use zarrs::codec::{BytesCodec, Endianness};
 use zarrs::{Array, ArrayToBytesCodec};
 use zarrs_builder::{ArrayBuilder, ToBuilder};

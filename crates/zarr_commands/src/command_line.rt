@@ -7,10 +7,9 @@ use crate::info::info;
 use crate::reencode::reencode;
 use crate::resize::resize;
 use crate::session::session;
-use crate::usages::{Command, Usage, command_help, program_help, usage_of};
-use crate::words::Given;
 use std::alloc::Global;
 use zarr_arrays::{Opened, Refusal, open};
+use zarr_words::{Command, Given, Usage, command_help, program_help, usage_of};
 
 /// How the words of a command line end.
 #[derive(Debug, Drop)]

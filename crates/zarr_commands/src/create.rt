@@ -1,10 +1,10 @@
 //! `create`.
-use crate::words::Given;
 use serde_json::Value;
 use std::alloc::Global;
 use std::fs;
 use zarr_arrays::Refusal;
 use zarr_cells::numbers;
+use zarr_words::Given;
 use zarrs::{
     Array, ArrayMetadata, ArrayMetadataV2, ChunkKeyEncoding, ChunkKeySeparator, FillValueMetadata,
     Lent,

@@ -13,8 +13,6 @@ mod info;
 mod reencode;
 mod resize;
 mod session;
-mod usages;
-mod words;
 
 pub use command_line::run;
 pub use zarr_arrays::Refusal;

@@ -1,9 +1,9 @@
 //! `resize`.
 use crate::create::store_document;
-use crate::words::Given;
 use std::alloc::Global;
 use zarr_arrays::{Opened, Refusal, present_chunks, read_value};
 use zarr_cells::numbers;
+use zarr_words::Given;
 use zarrs::{
     Array, ArrayBytes, ArraySubset, Bytes, CodecOptions, MemoryStore, ReadableStorageTraits,
     StoreKey, WritableStorageTraits,
