@@ -5,7 +5,8 @@ ghost use Rattle.zarrs_subset.specs.Regions.{box_of};
 ghost use Rattle.zarrs.specs.Arrays.{layout_of_array};
 ghost use Rattle.zarrs_directory.specs.Directory.{directory_of};
 ghost use Rattle.zarr_cells.specs.Forms.{rows_of};
-ghost use Rattle.zarr_arrays.specs.Reading.{ReadsCells};
+ghost use Rattle.zarrs_engine_calls.specs.ChunkBoxes.{chunks_met};
+ghost use Rattle.zarr_arrays.specs.Reading.{HasReadOnly, ReadsCells};
 ghost use Rattle.zarr_arrays.specs.Storing.{StoresCells};
 
 use crate::calls::{compact_chunk, retrieve_cells, store_cells, upgrade};
@@ -111,6 +112,9 @@ pub fn open<'r>(rt: &'r HostRuntime, dir: &str) -> Result<Opened<'r>, Refusal> {
 }
 
 impl<'r> Opened<'r> {
+    /// Lets go of the array, here and not in the crates above.
+    pub fn close(self) {}
+
     /// Returns the options of writing calls: without a fill value a chunk of zeros is stored like any other.
     pub fn options(&self) -> CodecOptions {
         CodecOptions::default().with_store_empty_chunks(self.lens.has_no_fill)
@@ -156,7 +160,7 @@ impl<'r> Opened<'r> {
         }
     }
 
-    /// Returns the cells of the region. Its chunks are read first, and what was read before is forgotten.
+    /// Returns the cells of the region. Its chunks are read first, and no other; what was read before is forgotten.
     ///
     /// # Errors
     /// E1 for a position that no chunk covers; E7 for a file that cannot be read; those of `Array::retrieve_array_subset`.
@@ -167,12 +171,15 @@ impl<'r> Opened<'r> {
     ) -> Result<ArrayBytes<'static>, Refusal>
         ensures cells { IfOk result (λ cells. ReadsCells (layout_of_array self.new.array)
             (box_of region.now) self.new.store (data_of cells)) }
+        ensures only { OnOk result (HasReadOnly (layout_of_array self.old.array)
+            (chunks_met (layout_of_array self.old.array).grid (box_of region.now)) self.new.store) }
         ensures array { self.new.array ≡ self.old.array }
         ensures directory { OnOk result (directory_of self.new.store ≡ directory_of self.old.store) }
     {
         self.store.forget();
         read_chunks(&self.array, &mut self.store, alloc, region)?;
-        retrieve_cells(&self.array, alloc, &self.store, region)
+        let cells = retrieve_cells(&self.array, alloc, &self.store, region)?;
+        Ok(cells)
     }
 
     /// Stores the cells of the region. The chunks that it does not cover are read first.

@@ -43,7 +43,7 @@ fn answer_of(
 fn on_array(rt: &HostRuntime, command: Command, given: &Given<'_>) -> Result<bool, Refusal> {
     let mut opened = open(rt, given.value("dir"))?;
     let answer = answer_of(rt, &mut opened, command, given);
-    drop(opened);
+    opened.close();
     answer
 }
 

@@ -86,24 +86,32 @@ fn add_band(
     }
 }
 
-/// Returns how many cells of two arrays of one shape and data type differ, band by band, and the first positions.
-fn compared(
+/// Adds the cells of the band that differ in the two arrays.
+fn compare_band(
     alloc: Global,
     one: &mut Opened<'_>,
     other: &mut Opened<'_>,
-) -> Result<Differences, Refusal> {
+    band: &ArraySubset,
+    differences: &mut Differences,
+) -> Result<(), Refusal> {
     let size = one.array.data_type().element_size().unwrap_or(1);
-    let mut found = Differences {
-        count: 0,
-        named: Vec::new(alloc),
-    };
-    let mut bands = Bands::of(one.array.subset_all(alloc)?);
+    let cells = one.cells(alloc, band)?;
+    let others = other.cells(alloc, band)?;
+    add_band(alloc, differences, band, size, &cells, &others)
+}
+
+/// Adds the cells that differ in two arrays of one shape and data type, band by band.
+fn compare(
+    alloc: Global,
+    one: &mut Opened<'_>,
+    other: &mut Opened<'_>,
+    differences: &mut Differences,
+) -> Result<(), Refusal> {
+    let mut bands = Bands::of(alloc, one.array.subset_all(alloc)?)?;
     while let Some(band) = bands.next(alloc, &one.array)? {
-        let cells = one.cells(alloc, &band)?;
-        let others = other.cells(alloc, &band)?;
-        add_band(alloc, &mut found, &band, size, &cells, &others)?;
+        compare_band(alloc, one, other, &band, differences)?;
     }
-    Ok(found)
+    Ok(())
 }
 
 /// Returns whether two arrays have one shape and one data type, and says what differs.
@@ -130,7 +138,11 @@ fn tell_differences(
     if !are_alike(rt, one, other)? {
         return Ok(false);
     }
-    let found = compared(rt.alloc(), one, other)?;
+    let mut found = Differences {
+        count: 0,
+        named: Vec::new(rt.alloc()),
+    };
+    compare(rt.alloc(), one, other, &mut found)?;
     for position in &found.named {
         println!(rt; "the cells at {position:?} differ")?;
     }
@@ -142,6 +154,6 @@ fn tell_differences(
 pub(crate) fn diff(rt: &HostRuntime, one: &mut Opened<'_>, other: &str) -> Result<bool, Refusal> {
     let mut other = open(rt, other)?;
     let answer = tell_differences(rt, one, &mut other);
-    drop(other);
+    other.close();
     answer
 }

@@ -153,7 +153,7 @@ fn show(rt: &HostRuntime, dir: &str, path: &str, as_json: bool) -> Result<(), Re
     let below = joined(rt.alloc(), dir, path)?;
     let opened = open(rt, below.as_str())?;
     let outcome = show_opened(rt, &opened, below.as_str(), path, as_json);
-    drop(opened);
+    opened.close();
     outcome
 }
 

@@ -4,7 +4,7 @@ use std::alloc::Global;
 use zarr_arrays::{Bands, Opened, Refusal, open};
 use zarr_words::Given;
 use zarrs::codec::{BytesCodec, Endianness};
-use zarrs::{Array, ArrayToBytesCodec};
+use zarrs::{Array, ArraySubset, ArrayToBytesCodec};
 use zarrs_builder::{ArrayBuilder, ToBuilder};
 
 /// What changes.
@@ -51,16 +51,26 @@ fn changed(alloc: Global, source: &Array<()>, changes: Changes<'_>) -> Result<Ar
     Ok(builder.build(alloc, (), "/")?)
 }
 
+/// Stores the cells of the band of the one array in the other.
+fn copy_band(
+    alloc: Global,
+    source: &mut Opened<'_>,
+    target: &mut Opened<'_>,
+    band: &ArraySubset,
+) -> Result<(), Refusal> {
+    let cells = source.cells(alloc, band)?;
+    target.store_cells(alloc, band, cells)
+}
+
 /// Stores the cells of the one array in the other, band by band.
 fn copy_cells(
     alloc: Global,
     source: &mut Opened<'_>,
     target: &mut Opened<'_>,
 ) -> Result<(), Refusal> {
-    let mut bands = Bands::of(target.array.subset_all(alloc)?);
+    let mut bands = Bands::of(alloc, target.array.subset_all(alloc)?)?;
     while let Some(band) = bands.next(alloc, &target.array)? {
-        let cells = source.cells(alloc, &band)?;
-        target.store_cells(alloc, &band, cells)?;
+        copy_band(alloc, source, target, &band)?;
     }
     Ok(())
 }
@@ -90,7 +100,7 @@ pub(crate) fn reencode(
     make_target(rt, &source.array, given.value("to"), changes)?;
     let mut target = open(rt, given.value("to"))?;
     let outcome = copy_cells(alloc, source, &mut target);
-    drop(target);
+    target.close();
     outcome?;
     Ok(true)
 }

@@ -47,7 +47,7 @@ fn store_lines<R: BufRead>(
         (R.remaining input.old) (R.remaining input.new) opened.old.store opened.new.store) }
 {
     let mut column = 0;
-    let mut bands = Bands::of(region);
+    let mut bands = Bands::of(alloc, region)?;
     while let Some(band) = bands.next(alloc, &opened.array)? {
         column = store_band_lines(alloc, input, opened, rows, column, &band)?;
     }
@@ -82,7 +82,7 @@ fn store_text_lines<R: BufRead>(
         return Err(no_text(alloc));
     }
     let mut column = 0;
-    let mut bands = Bands::of(region);
+    let mut bands = Bands::of(alloc, region)?;
     while let Some(band) = bands.next(alloc, &opened.array)? {
         column = store_band_texts(alloc, input, opened, width, column, &band)?;
     }
@@ -142,7 +142,7 @@ fn store_bytes<R: Read>(
         (positions (box_of region)) (R.remaining input.old) (R.remaining input.new)
         opened.old.store opened.new.store) }
 {
-    let mut bands = Bands::of(region);
+    let mut bands = Bands::of(alloc, region)?;
     while let Some(band) = bands.next(alloc, &opened.array)? {
         store_band_bytes(alloc, input, opened, &band)?;
     }

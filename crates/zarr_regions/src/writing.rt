@@ -58,7 +58,7 @@ fn write_lines<W: Write>(
         (positions (box_of region)) (W.contents out.old) (W.contents out.new)) }
 {
     let mut column = 0;
-    let mut bands = Bands::of(region);
+    let mut bands = Bands::of(alloc, region)?;
     while let Some(band) = bands.next(alloc, &opened.array)? {
         column = write_band_lines(alloc, out, opened, rows, column, &band)?;
     }
@@ -74,7 +74,7 @@ fn write_text_lines<W: Write>(
     region: ArraySubset,
 ) -> Result<(), Refusal> {
     let mut column = 0;
-    let mut bands = Bands::of(region);
+    let mut bands = Bands::of(alloc, region)?;
     while let Some(band) = bands.next(alloc, &opened.array)? {
         match opened.cells(alloc, &band)? {
             ArrayBytes::Variable(texts) => {
@@ -139,7 +139,7 @@ fn write_bytes<W: Write>(
         (directory_of opened.old.store) (positions (box_of region))
         (W.contents out.old) (W.contents out.new)) }
 {
-    let mut bands = Bands::of(region);
+    let mut bands = Bands::of(alloc, region)?;
     while let Some(band) = bands.next(alloc, &opened.array)? {
         write_band_bytes(alloc, out, opened, &band)?;
     }

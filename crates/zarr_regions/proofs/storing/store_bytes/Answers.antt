@@ -12,7 +12,7 @@ loop-bands-init g c =
     let store = c.args.opened.now.store in
     let input = g.R.Read.remaining c.args.input.now in
     record {
-      front = front_none (λ (done : List (List ℕ)). StoresBytes layout done input input store store) _ _ c.of-bands.ensures (stored_none layout input store);
+      front = front_none (λ (done : List (List ℕ)). StoresBytes layout done input input store store) _ _ c.in_ok-bands.ensures (stored_none layout input store);
       array = refl;
     }
 

@@ -14,7 +14,7 @@ loop-bands-init g c =
     let input = g.R.Read.remaining c.args.input.now in
     record {
       front =
-          front_none (λ (done : List (List ℕ)). StoresLines layout rows.form rows.size rows.width 0 0 done input input store store) _ _ c.of-bands.ensures
+          front_none (λ (done : List (List ℕ)). StoresLines layout rows.form rows.size rows.width 0 0 done input input store store) _ _ c.in_ok-bands.ensures
           (read_none layout rows.form rows.size rows.width 0 input store);
       array = refl;
     }

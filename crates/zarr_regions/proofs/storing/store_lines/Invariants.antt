@@ -1,7 +1,7 @@
 use Rattle.std.proofs.Common.{◌≡◌, List, ℕ}
 use Rattle.zarrs_subset.specs.Regions.{box_of, positions}
 use Rattle.zarrs.specs.Arrays.{layout_of_array}
-use Rattle.zarr_arrays.specs.Bands.{places_left, rows_left}
+use Rattle.zarr_arrays.specs.Bands.{count_left, places_left}
 use Rattle.zarr_regions.specs.Cells.{StoresLines}
 use Rattle.zarr_regions.proofs.BandLemmas.{Front}
 use Rattle.zarr_regions.proofs.storing.store_lines.Given as goal
@@ -17,4 +17,4 @@ invariant-loop-bands g l = record {
 }
 
 abbrev pub decreases-loop-bands : goal.decreases-loop-bands
-decreases-loop-bands g l = rows_left l.bands
+decreases-loop-bands g l = count_left l.bands

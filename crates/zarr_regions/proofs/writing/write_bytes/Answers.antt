@@ -13,7 +13,7 @@ loop-bands-init g c =
     let directory = directory_of c.args.opened.now.store in
     let held = g.W.Write.contents c.args.out.now in
     record {
-      front = front_none (λ (done : List (List ℕ)). WritesBytes layout directory done held held) _ _ c.of-bands.ensures (bytes_none layout directory held);
+      front = front_none (λ (done : List (List ℕ)). WritesBytes layout directory done held held) _ _ c.in_ok-bands.ensures (bytes_none layout directory held);
       array = refl;
       directory = refl;
     }

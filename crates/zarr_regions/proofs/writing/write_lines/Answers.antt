@@ -15,7 +15,7 @@ loop-bands-init g c =
     let held = g.W.Write.contents c.args.out.now in
     record {
       front =
-          front_none (λ (done : List (List ℕ)). WritesLines layout directory rows.form rows.size rows.width 0 0 done held held) _ _ c.of-bands.ensures
+          front_none (λ (done : List (List ℕ)). WritesLines layout directory rows.form rows.size rows.width 0 0 done held held) _ _ c.in_ok-bands.ensures
           (lines_none layout directory rows.form rows.size rows.width 0 held);
       array = refl;
       directory = refl;
