@@ -1,5 +1,5 @@
 -- What holds of each of the chunks that a loop has gone over, and what a call may ask then.
-use Rattle.std.proofs.Common.{◌≡◌, ℕ, List, [], ◌∷◌, ◌++◌, ◌<◌, length, Bool, true, false, refl, sym, subst, ap, ◌∙◌, inl, inr, arith}
+use Rattle.std.proofs.Common.{◌≡◌, ℕ, List, [], ◌∷◌, ◌++◌, ◌<◌, length, true, false, refl, sym, subst, ap, ◌∙◌, inl, inr, arith}
 use Rattle.std.specs.Prelude.{◌⊎◌, Contains, Option, Some, None, Result, Ok, IfOk}
 use Rattle.std.specs.declared.alloc.AllocError.{AllocError}
 use Rattle.smallvec.specs.SmallVec.{SmallVec}
@@ -108,12 +108,12 @@ module _ {R : Type 0} (layout : Layout) where
   pub same_at_most : (store : DirectoryStore R) (index : List ℕ) → ReadsAtMost layout store store index
   same_at_most store index = record { keys = λ key read. inl read }
 
-  pub no_others : (chunks : List (List ℕ)) (store : DirectoryStore R) → ReadsNoOthers layout chunks store store
-  no_others chunks store = record { keys = λ key read. inl read }
+  pub none_read : (chunks : List (List ℕ)) (store : DirectoryStore R) → ReadsNoOthers layout chunks store store
+  none_read chunks store = record { keys = λ key read. inl read }
 
-  pub no_others_more : (chunks : List (List ℕ)) (start old new : DirectoryStore R) (index : List ℕ) → Contains chunks index → ReadsAtMost layout old new index
+  pub more_read : (chunks : List (List ℕ)) (start old new : DirectoryStore R) (index : List ℕ) → Contains chunks index → ReadsAtMost layout old new index
       → ReadsNoOthers layout chunks start old → ReadsNoOthers layout chunks start new
-  no_others_more chunks start old new index among most others = record {
+  more_read chunks start old new index among most others = record {
     keys = λ key read.
         elim (most.keys key read) [
           | inl before ↦ others.keys key before

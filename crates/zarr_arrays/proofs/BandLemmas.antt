@@ -1,9 +1,8 @@
 -- What is left of a region that is cut into bands.
-use Rattle.std.proofs.Common.{◌≡◌, ℕ, ◌+◌, ◌<◌, List, [], ◌∷◌, ◌++◌, Bool, true, false, length, refl, sym, subst, ap, ◌∙◌, append-nil, append_assoc, length-append, arith}
-use Rattle.std.specs.Prelude.{◌↔◌, IsTrue, Option, Some, SomeIndex, slice_index}
+use Rattle.std.proofs.Common.{◌≡◌, ℕ, ◌+◌, ◌<◌, List, [], ◌∷◌, ◌++◌, length, refl, sym, subst, ap, ◌∙◌, append-nil, append_assoc, length-append, arith}
+use Rattle.std.specs.Prelude.{Option, Some}
 use Rattle.std.specs.Option.{option_to_list}
 use Rattle.std.specs.List.{All}
-use Rattle.std.proofs.lemmas.Bool.{false≢true}
 use Rattle.std.proofs.lemmas.List.Elements.{All-head, All-tail}
 use Rattle.zarrs_subset.specs.Regions.{Box, IsLong, box_of, positions}
 use Rattle.zarrs_subset.specs.declared.subset.ArraySubset.{ArraySubset}
@@ -20,10 +19,6 @@ places_push (first ∷ regions) region =
 pub places_one : (none all : List ArraySubset) (region : ArraySubset) → none ≡ [] → all ≡ none ++ region ∷ [] → places_of all ≡ positions (box_of region)
 places_one none all region empty items =
     ap places_of (items ∙ ap (λ (l : List ArraySubset). l ++ region ∷ []) empty)
-
-pub places_none : (regions : List ArraySubset) → length regions ≡ 0 → places_of regions ≡ []
-places_none [] none = refl
-places_none (region ∷ regions) none = absurd (omega arith)
 
 -- the last region is taken
 pub places_pop : (old new : List ArraySubset) (found : Option ArraySubset) (region : ArraySubset) → old ≡ new ++ option_to_list found → found ≡ Some region
@@ -65,7 +60,3 @@ fewer_left band left all split long full =
     let both = length-append (positions band) left in
     let same = ap (λ (l : List (List ℕ)). length l) split in
     omega (arith, both, same)
-
--- a region that is not empty
-pub full_region : (box : Box) (empty : Bool) → (IsTrue empty ↔ SomeIndex box.shape (λ k. slice_index box.shape k ≡ 0)) → empty ≡ false → IsFull box
-full_region box empty test not k below nothing = false≢true (sym not ∙ test.1 (k, below, nothing))

@@ -31,10 +31,8 @@ fn cell_bytes(array: &Array<()>) -> u64
     ensures value { result ≡ cell_bytes (layout_of_array array.now).kind }
     ensures some { 1 ≤ result }
 {
-    match array.data_type().element_size() {
-        Some(size) => (size as u64).max(1),
-        None => 16,
-    }
+    let size = array.data_type().element_size().unwrap_or(16);
+    (size as u64).max(1)
 }
 
 /// Returns how many bytes the cells of a row along the axis have.
