@@ -128,7 +128,11 @@ fn data_type_refused(
     }
 }
 
-pub(crate) fn grid_from(
+/// Makes the grid over an array of this shape that the metadata says.
+///
+/// # Errors
+/// E18 for none. E26 may come at any time.
+pub fn grid_from(
     alloc: Global,
     metadata: &MetadataV3,
     shape: &[u64],
@@ -161,7 +165,11 @@ fn invalid_fill_value(alloc: Global, name: &str, metadata: &FillValueMetadata) -
     }
 }
 
-fn fill_value_from(
+/// Makes the fill value of the data type of this name that the metadata says.
+///
+/// # Errors
+/// E15 for none. E26 may come at any time.
+pub fn fill_value_from(
     alloc: Global,
     data_type: &DataType,
     name: &str,

@@ -31,12 +31,11 @@ use zarrs_codec::{
     ArrayToArrayCodec, ArrayToBytesCodec, BytesToBytesCodecs, CodecChain, ShardingCodecBuilder,
     default_array_to_bytes_codec,
 };
+use zarrs_creation::grid_from;
 use zarrs_data_type::{DataType, DataTypeFillValueError, FillValue};
 use zarrs_data_type_kinds::laws::written_fill_value_is_read;
 use zarrs_keys::NodePath;
-use zarrs_metadata::{
-    ArrayMetadata, ArrayMetadataV3, DimensionName, FillValueMetadata, PluginCreateError,
-};
+use zarrs_metadata::{ArrayMetadata, ArrayMetadataV3, DimensionName, FillValueMetadata};
 use zarrs_metadata_parts::members::copied;
 use zarrs_options::{ArrayBuilderChunkGridMetadata, ArrayCreateError};
 
@@ -388,11 +387,7 @@ fn grid_over(
         (grid_chosen (grid_given given.now) shape.now)) (create_refusal_of e)) }
 {
     let metadata = given.to_metadata(alloc)?;
-    match ChunkGrid::from_metadata(alloc, &metadata, shape) {
-        Ok(grid) => Ok(grid),
-        Err(PluginCreateError::OutOfMemory) => Err(ArrayCreateError::OutOfMemory),
-        Err(error) => Err(ArrayCreateError::ChunkGridCreateError(error)),
-    }
+    grid_from(alloc, &metadata, shape)
 }
 
 /// Checks that there are as many names as dimensions, if there are names.
