@@ -10,7 +10,7 @@ ghost use Rattle.zarrs_data_type_kinds.specs.Kind.{kind};
 
 use super::{ArrayBytes, ArrayBytesOptional};
 use crate::boxes::bytes_with_part;
-use crate::string_boxes::strings_with_part;
+use crate::placed_strings::PlacedStrings;
 use crate::variable::ArrayBytesVariableLength;
 use std::alloc::{AllocError, Global};
 use std::borrow::CowSlice;
@@ -72,9 +72,7 @@ impl ArrayBytes<'static> {
                 let ArrayBytes::Optional(given) = part else {
                     unreachable!()
                 };
-                let Some(inner) = data_type.optional_inner() else {
-                    unreachable!()
-                };
+                let inner = data_type.optional_inner().unwrap();
                 let ArrayBytesOptional { data, mask } = optional;
                 let mask = mask.with_part(alloc, held_box, given.mask(), part_box)?;
                 let data = Box::into_inner(data).put_part(
@@ -114,9 +112,7 @@ fn fixed_with_part(
     let ArrayBytes::Fixed(given) = part else {
         unreachable!()
     };
-    let Some(size) = data_type.element_size() else {
-        unreachable!()
-    };
+    let size = data_type.element_size().unwrap();
     let bytes = bytes.into_owned(alloc)?;
     let made = bytes_with_part(bytes, size, held_box, given.as_slice(), part_box);
     Ok(ArrayBytes::new_flen(made))
@@ -142,5 +138,7 @@ fn variable_with_part(
     let ArrayBytes::Variable(given) = part else {
         unreachable!()
     };
-    Ok(ArrayBytes::Variable(strings_with_part(alloc, strings, held_box, given, part_box)?))
+    let held = PlacedStrings::with_room(alloc, &strings, given.bytes().len())?;
+    let made = held.with_part(alloc, held_box, given, part_box)?;
+    Ok(ArrayBytes::Variable(made.into_strings(alloc)?))
 }

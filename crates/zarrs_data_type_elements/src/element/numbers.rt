@@ -1,25 +1,26 @@
 //! Whole numbers as cells.
-ghost use Rattle.std.specs.Prelude.{◌≡◌, ◌%◌, true, length, map, refl, Some, IfOk, IfErr};
+ghost use Rattle.std.specs.Prelude.{◌≡◌, ◌%◌, false, true, length, map, refl, Some, IfOk, IfErr};
 ghost use Rattle.std.specs.Cow.{cow_slice_items};
 ghost use Rattle.std.specs.List.{flat_map};
+ghost use Rattle.std.specs.Option.{option_map_or};
 ghost use Rattle.zarrs_data_type_bytes.specs.ArrayData.{data_of};
 ghost use Rattle.zarrs_data_type_bytes.specs.Cells.{cells};
 ghost use Rattle.zarrs_data_type_numbers.specs.Options.{option_flag};
 ghost use Rattle.zarrs_data_type_kinds.specs.Cell.{bytes, takes_any_bytes};
-ghost use Rattle.zarrs_data_type_kinds.specs.Kind.{Kind, kind, element_size};
+ghost use Rattle.zarrs_data_type_kinds.specs.Kind.{Kind, kind, element_size, inner_of};
 ghost use Rattle.zarrs_data_type_kinds.specs.Kind as type;
 ghost use Rattle.zarrs_data_type_kinds.specs.Same.{kind_eq};
 ghost use Rattle.zarrs_data_type_elements.specs.Elements.{HoldsOptions, RefusesCells, option_cell};
 
 use super::copies::copied;
 use super::{Element, ElementOwned};
-use crate::error::ElementError;
+use crate::error::{ElementError, check_served};
 use std::alloc::{AllocError, Global};
 use std::borrow::CowSlice;
 use std::mem;
 use zarrs_data_type_bytes::ArrayBytes;
 use zarrs_data_type_kinds::DataType;
-use zarrs_data_type_numbers::WholeNumber;
+use zarrs_data_type_numbers::{NumberBytes, WholeNumber};
 
 /// A whole number that is the value of a cell.
 pub trait Number: WholeNumber {
@@ -36,9 +37,9 @@ pub trait Number: WholeNumber {
     /// `AllocError`: out of memory.
     fn lend_bytes<'a>(alloc: Global, numbers: &'a [Self]) -> Result<CowSlice<'a, u8>, AllocError>
         ensures { IfOk result (λ made. cow_slice_items made
-            ≡ flat_map Self.le_bytes numbers.now) }
+            ≡ flat_map Self.Bytes.le_bytes numbers.now) }
     {
-        Ok(CowSlice::Owned(Self::to_bytes(alloc, numbers)?))
+        Ok(CowSlice::Owned(Self::Bytes::to_bytes(alloc, numbers)?))
     }
 
     /// The bytes of the numbers. Numbers that are bytes are taken, not copied.
@@ -47,9 +48,9 @@ pub trait Number: WholeNumber {
     /// `AllocError`: out of memory.
     fn take_bytes(alloc: Global, numbers: &mut Vec<Self>) -> Result<Vec<u8>, AllocError>
         ensures { IfOk result (λ made. made.items
-            ≡ flat_map Self.le_bytes numbers.old.items) }
+            ≡ flat_map Self.Bytes.le_bytes numbers.old.items) }
     {
-        Self::to_bytes(alloc, numbers.as_slice())
+        Self::Bytes::to_bytes(alloc, numbers.as_slice())
     }
 
     /// The numbers of the bytes. Bytes that are owned become numbers without a copy.
@@ -57,26 +58,22 @@ pub trait Number: WholeNumber {
     /// # Errors
     /// `AllocError`: out of memory.
     fn own_bytes(alloc: Global, bytes: CowSlice<'_, u8>) -> Result<Vec<Self>, AllocError>
-        requires { length (cow_slice_items bytes) % Self.size ≡ 0 }
-        ensures { IfOk result (λ made. flat_map Self.le_bytes made.items
+        requires { length (cow_slice_items bytes) % Self.Bytes.size ≡ 0 }
+        ensures { IfOk result (λ made. flat_map Self.Bytes.le_bytes made.items
             ≡ cow_slice_items bytes.entry) }
     {
-        Self::from_bytes(alloc, bytes.as_slice())
+        Self::Bytes::from_bytes(alloc, bytes.as_slice())
     }
 
-    // Such cells have the size of the number.
-    ghost number_size: { element_size number_kind ≡ Some Self.WholeNumber.size };
-
-    // They are any bytes of this size.
-    ghost number_any: { takes_any_bytes number_kind ≡ true };
+    // Such cells are any bytes of the number's size.
+    ghost number_cells: { (element_size number_kind ≡ Some Self.Bytes.size)
+        × (takes_any_bytes number_kind ≡ true) };
 }
 
 impl Number for u8 {
     ghost number_kind = { type.uint8 };
 
-    ghost number_size = { refl };
-
-    ghost number_any = { refl };
+    ghost number_cells = { (refl, refl) };
 
     fn is_number_of(data_type: &DataType) -> bool {
         *data_type == DataType::UInt8
@@ -98,9 +95,7 @@ impl Number for u8 {
 impl Number for u16 {
     ghost number_kind = { type.uint16 };
 
-    ghost number_size = { refl };
-
-    ghost number_any = { refl };
+    ghost number_cells = { (refl, refl) };
 
     fn is_number_of(data_type: &DataType) -> bool {
         *data_type == DataType::UInt16
@@ -110,9 +105,7 @@ impl Number for u16 {
 impl Number for u32 {
     ghost number_kind = { type.uint32 };
 
-    ghost number_size = { refl };
-
-    ghost number_any = { refl };
+    ghost number_cells = { (refl, refl) };
 
     fn is_number_of(data_type: &DataType) -> bool {
         *data_type == DataType::UInt32
@@ -122,9 +115,7 @@ impl Number for u32 {
 impl Number for u64 {
     ghost number_kind = { type.uint64 };
 
-    ghost number_size = { refl };
-
-    ghost number_any = { refl };
+    ghost number_cells = { (refl, refl) };
 
     fn is_number_of(data_type: &DataType) -> bool {
         *data_type == DataType::UInt64
@@ -134,9 +125,7 @@ impl Number for u64 {
 impl Number for i8 {
     ghost number_kind = { type.int8 };
 
-    ghost number_size = { refl };
-
-    ghost number_any = { refl };
+    ghost number_cells = { (refl, refl) };
 
     fn is_number_of(data_type: &DataType) -> bool {
         *data_type == DataType::Int8
@@ -146,9 +135,7 @@ impl Number for i8 {
 impl Number for i16 {
     ghost number_kind = { type.int16 };
 
-    ghost number_size = { refl };
-
-    ghost number_any = { refl };
+    ghost number_cells = { (refl, refl) };
 
     fn is_number_of(data_type: &DataType) -> bool {
         *data_type == DataType::Int16
@@ -158,9 +145,7 @@ impl Number for i16 {
 impl Number for i32 {
     ghost number_kind = { type.int32 };
 
-    ghost number_size = { refl };
-
-    ghost number_any = { refl };
+    ghost number_cells = { (refl, refl) };
 
     fn is_number_of(data_type: &DataType) -> bool {
         *data_type == DataType::Int32
@@ -170,9 +155,7 @@ impl Number for i32 {
 impl Number for i64 {
     ghost number_kind = { type.int64 };
 
-    ghost number_size = { refl };
-
-    ghost number_any = { refl };
+    ghost number_cells = { (refl, refl) };
 
     fn is_number_of(data_type: &DataType) -> bool {
         *data_type == DataType::Int64
@@ -180,7 +163,7 @@ impl Number for i64 {
 }
 
 impl<T: Number> Element for T {
-    ghost cell = { λ x. bytes (T.WholeNumber.le_bytes x) };
+    ghost cell = { λ x. bytes (T.Bytes.le_bytes x) };
 
     ghost serves = { λ k. kind_eq k T.number_kind };
 
@@ -193,9 +176,7 @@ impl<T: Number> Element for T {
         data_type: &DataType,
         elements: &'a [T],
     ) -> Result<ArrayBytes<'a>, ElementError> {
-        if !T::is_number_of(data_type) {
-            return Err(ElementError::IncompatibleElementType);
-        }
+        check_served(T::is_number_of(data_type))?;
         Ok(ArrayBytes::Fixed(T::lend_bytes(alloc, elements)?))
     }
 
@@ -204,9 +185,7 @@ impl<T: Number> Element for T {
         data_type: &DataType,
         elements: &mut Vec<T>,
     ) -> Result<ArrayBytes<'static>, ElementError> {
-        if !T::is_number_of(data_type) {
-            return Err(ElementError::IncompatibleElementType);
-        }
+        check_served(T::is_number_of(data_type))?;
         Ok(ArrayBytes::new_flen(T::take_bytes(alloc, elements)?))
     }
 
@@ -224,12 +203,7 @@ impl<T: Number> Element for T {
         data_type: &DataType,
         options: &[Option<T>],
     ) -> Result<ArrayBytes<'static>, ElementError> {
-        let Some(inner) = data_type.optional_inner() else {
-            return Err(ElementError::IncompatibleElementType);
-        };
-        if !T::is_number_of(inner) {
-            return Err(ElementError::IncompatibleElementType);
-        }
+        check_served(is_option_of::<T>(data_type))?;
         Ok(number_option_data(alloc, data_type, options)?)
     }
 }
@@ -240,9 +214,7 @@ impl<T: Number> ElementOwned for T {
         data_type: &DataType,
         array_bytes: ArrayBytes<'_>,
     ) -> Result<Vec<T>, ElementError> {
-        if !T::is_number_of(data_type) {
-            return Err(ElementError::IncompatibleElementType);
-        }
+        check_served(T::is_number_of(data_type))?;
         let ArrayBytes::Fixed(bytes) = array_bytes else {
             return Err(ElementError::IncompatibleElementType);
         };
@@ -258,13 +230,19 @@ impl<T: Number> ElementOwned for T {
         data_type: &DataType,
         array_bytes: ArrayBytes<'_>,
     ) -> Result<Vec<Option<T>>, ElementError> {
-        let Some(inner) = data_type.optional_inner() else {
-            return Err(ElementError::IncompatibleElementType);
-        };
-        if !T::is_number_of(inner) {
-            return Err(ElementError::IncompatibleElementType);
-        }
+        check_served(is_option_of::<T>(data_type))?;
         number_options(alloc, data_type, &array_bytes)
+    }
+}
+
+/// Whether options of the numbers are the values of this data type.
+fn is_option_of<T: Number>(data_type: &DataType) -> bool
+    ensures { result ≡ option_map_or (λ k. kind_eq k T.number_kind) (inner_of (kind data_type.now))
+        false }
+{
+    match data_type.optional_inner() {
+        Some(inner) => T::is_number_of(inner),
+        None => false,
     }
 }
 
@@ -285,13 +263,13 @@ pub(super) fn number_option_data<T: WholeNumber>(
     data_type: &DataType,
     options: &[Option<T>],
 ) -> Result<ArrayBytes<'static>, AllocError>
-    requires { HoldsOptions (kind data_type.now) T.size }
+    requires { HoldsOptions (kind data_type.now) T.Bytes.size }
     ensures { IfOk result (λ made. cells (kind data_type.now) (data_of made)
-        ≡ Some (map (option_cell (λ x. bytes (T.le_bytes x))) options.now)) }
+        ≡ Some (map (option_cell (λ x. bytes (T.Bytes.le_bytes x))) options.now)) }
 {
     let _ = data_type;
     let flags = option_flags(alloc, options)?;
-    let bytes = T::options_to_bytes(alloc, options)?;
+    let bytes = T::Bytes::options_to_bytes(alloc, options)?;
     let data = ArrayBytes::new_flen(bytes);
     data.with_optional_mask(alloc, CowSlice::Owned(flags))
 }
@@ -302,9 +280,9 @@ pub(super) fn number_options<T: WholeNumber>(
     data_type: &DataType,
     array_bytes: &ArrayBytes<'_>,
 ) -> Result<Vec<Option<T>>, ElementError>
-    requires { HoldsOptions (kind data_type.now) T.size }
+    requires { HoldsOptions (kind data_type.now) T.Bytes.size }
     ensures cells { IfOk result (λ options. cells (kind data_type.now) (data_of array_bytes.now)
-        ≡ Some (map (option_cell (λ x. bytes (T.le_bytes x))) options.items)) }
+        ≡ Some (map (option_cell (λ x. bytes (T.Bytes.le_bytes x))) options.items)) }
     ensures refused { IfErr result (RefusesCells true (cells (kind data_type.now)
         (data_of array_bytes.now))) }
 {
@@ -316,7 +294,11 @@ pub(super) fn number_options<T: WholeNumber>(
         return Err(ElementError::IncompatibleElementType);
     }
     match optional.data() {
-        ArrayBytes::Fixed(bytes) => Ok(T::options_from_bytes(alloc, flags, bytes.as_slice())?),
+        ArrayBytes::Fixed(bytes) => Ok(T::Bytes::options_from_bytes(
+            alloc,
+            flags,
+            bytes.as_slice(),
+        )?),
         _ => Err(ElementError::IncompatibleElementType),
     }
 }
