@@ -1,9 +1,14 @@
 -- What a conversion gives, by what the members read as.
-use Rattle.std.proofs.Common.{◌≡◌, true, false, Some, None, Ok, Err, refl}
+use Rattle.std.proofs.Common.{◌≡◌, true, false, Option, Some, None, Ok, Err, refl}
 use Rattle.serde_json.specs.Data.{Data}
 use Rattle.zarrs_metadata_v2.specs.Document.{DocumentV2Data}
 use Rattle.zarrs_metadata.specs.Conversion.{no_type, no_fill_value, no_codecs, type_v2, fill_v3, is_uncompressed, converted, to_v3}
 use Rattle.zarrs_metadata_parts.specs.declared.types_v2.TypeV2.{TypeV2}
+
+-- a value that no `Some` is
+pub none_of : {A : Type 0} (o : Option A) → ((a : A) → o ≡ Some a → ⊥) → o ≡ None
+none_of None never = refl
+none_of (Some a) never = absurd (never a refl)
 
 pub without_type : (m : DocumentV2Data) → type_v2 m.dtype ≡ None → to_v3 m ≡ Err (no_type m.dtype)
 unfolding to_v3

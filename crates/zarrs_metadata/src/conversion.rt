@@ -35,10 +35,8 @@ fn coding_reason(alloc: Global, metadata: &ArrayMetadataV2) -> Result<String, Al
     }
     if let Some(filters) = metadata.filters.as_array() {
         for filter in filters {
-            if let Some(id) = coding_id(filter) {
-                if id != "vlen-utf8" {
-                    return format!(in alloc; "the filter `{id}` is not supported");
-                }
+            if let Some(id) = coding_id(filter).filter(|id| *id != "vlen-utf8") {
+                return format!(in alloc; "the filter `{id}` is not supported");
             }
         }
     }
@@ -65,21 +63,15 @@ pub fn array_metadata_v2_to_v3(
         ≡ Ok (document_view m)) }
     ensures refused { IfErr result (RefusesConversion (to_v3 (document_v2_view metadata.now))) }
 {
-    let cells = match TypeV2::from_text(metadata.dtype.as_str()) {
-        Some(cells) => cells,
-        None => {
-            let dtype = String::from_str(alloc, metadata.dtype.as_str())?;
-            return Err(ArrayMetadataV2ToV3Error::UnsupportedDataType(dtype));
-        }
+    let Some(cells) = TypeV2::from_text(metadata.dtype.as_str()) else {
+        let dtype = String::from_str(alloc, metadata.dtype.as_str())?;
+        return Err(ArrayMetadataV2ToV3Error::UnsupportedDataType(dtype));
     };
-    let fill_value = match cells.kind.fill_value(alloc, &metadata.fill_value)? {
-        Some(fill_value) => fill_value,
-        None => {
-            return Err(ArrayMetadataV2ToV3Error::InvalidFillValueMetadata {
-                data_type_name: String::from_str(alloc, metadata.dtype.as_str())?,
-                fill_value_metadata: metadata.fill_value.try_clone(alloc)?,
-            });
-        }
+    let Some(fill_value) = cells.kind.fill_value(alloc, &metadata.fill_value)? else {
+        return Err(ArrayMetadataV2ToV3Error::InvalidFillValueMetadata {
+            data_type_name: String::from_str(alloc, metadata.dtype.as_str())?,
+            fill_value_metadata: metadata.fill_value.try_clone(alloc)?,
+        });
     };
     if !is_uncompressed(cells.kind, metadata) {
         let text = coding_reason(alloc, metadata)?;
@@ -227,8 +219,5 @@ fn has_text_id(members: &Map<String, Value>) -> bool
     ensures { result ≡ reads_as_text (codes "vlen-utf8")
         (get_member (codes "id") (members_view members.now.entries)) }
 {
-    match member_of(members, "id") {
-        Some(id) => matches!(id.as_str(), Some(text) if text == "vlen-utf8"),
-        None => false,
-    }
+    matches!(member_of(members, "id").and_then(Value::as_str), Some(id) if id == "vlen-utf8")
 }

@@ -2,7 +2,7 @@
 ghost use Rattle.std.specs.Prelude.{◌≡◌};
 ghost use Rattle.zarrs_metadata.specs.declared.error.ArrayMetadataV2ToV3Error.TheVariants as conversion;
 
-use std::alloc::{AllocError, AllocFailed};
+use std::alloc::AllocError;
 use thiserror::Error;
 use zarrs_metadata_parts::FillValueMetadata;
 
@@ -32,14 +32,6 @@ impl From<AllocError> for ArrayMetadataV2ToV3Error {
     ghost from_gives = { λ _ e. e ≡ conversion.OutOfMemory };
 
     fn from(_error: AllocError) -> ArrayMetadataV2ToV3Error {
-        ArrayMetadataV2ToV3Error::OutOfMemory
-    }
-}
-
-impl<T: Drop> From<AllocFailed<T>> for ArrayMetadataV2ToV3Error {
-    ghost from_gives = { λ _ e. e ≡ conversion.OutOfMemory };
-
-    fn from(_error: AllocFailed<T>) -> ArrayMetadataV2ToV3Error {
         ArrayMetadataV2ToV3Error::OutOfMemory
     }
 }

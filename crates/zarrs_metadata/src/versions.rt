@@ -49,15 +49,9 @@ impl ArrayMetadata {
         ensures refused { IfErr result (RefusesReading (metadata_of (view value))) }
     {
         if is_version_2(&value) {
-            match ArrayMetadataV2::from_value(alloc, value) {
-                Ok(document) => Ok(ArrayMetadata::V2(document)),
-                Err(error) => Err(error),
-            }
+            ArrayMetadataV2::from_value(alloc, value).map(ArrayMetadata::V2)
         } else {
-            match ArrayMetadataV3::from_value(alloc, value) {
-                Ok(document) => Ok(ArrayMetadata::V3(document)),
-                Err(error) => Err(error),
-            }
+            ArrayMetadataV3::from_value(alloc, value).map(ArrayMetadata::V3)
         }
     }
 
@@ -78,8 +72,5 @@ impl ArrayMetadata {
 fn is_version_2(value: &Value) -> bool
     ensures { result ≡ reads_as_number 2 (get (codes "zarr_format") (view value.now)) }
 {
-    match value.get("zarr_format").and_then(Value::as_u64) {
-        Some(version) => version == 2,
-        None => false,
-    }
+    matches!(value.get("zarr_format").and_then(Value::as_u64), Some(version) if version == 2)
 }

@@ -4,7 +4,7 @@ ghost use Rattle.std.specs.Int.NonZero.{non_zero_u64_get};
 ghost use Rattle.serde_json.specs.Data.{Members};
 ghost use Rattle.serde_json.specs.Find.{as_str};
 ghost use Rattle.serde_json.specs.View.{view, items_view, members_view};
-ghost use Rattle.zarrs_metadata_parts.specs.Lists.{all_of, list_of};
+ghost use Rattle.zarrs_metadata_parts.specs.Lists.{all_of};
 ghost use Rattle.zarrs_metadata_v3.specs.Members.{list_in};
 ghost use Rattle.zarrs_metadata_v3.specs.Refusals.{Reads};
 ghost use Rattle.zarrs_metadata_v2.specs.Document.{non_zero_size, chunk_order_of, dimension_separator_in};
@@ -47,13 +47,7 @@ pub(crate) fn read_document(
 ) -> Result<ArrayMetadataV2, Unread>
     ensures { Reads document_v2_view (document_v2_from (members_view members.entries)) result }
 {
-    document_from(alloc, Parts::take(members))
-}
-
-fn document_from(alloc: Global, parts: Parts) -> Result<ArrayMetadataV2, Unread>
-    ensures { (ms : Members) → AreParts ms parts
-        → Reads document_v2_view (document_v2_from ms) result }
-{
+    let parts = Parts::take(members);
     if !reads_as_number(&parts.zarr_format, 2) {
         return Err(fault(&parts.zarr_format, "zarr_format", "is not 2"));
     }
@@ -116,25 +110,15 @@ fn all_sizes(alloc: Global, items: Vec<Value>) -> Result<Option<Vec<NonZeroU64>>
     Ok(Some(sizes))
 }
 
-fn sizes_of(alloc: Global, value: Value) -> Result<Option<Vec<NonZeroU64>>, AllocError>
-    ensures { IfOk result (λ o. option_map (λ v. map non_zero_u64_get v.items) o
-        ≡ list_of non_zero_size (view value)) }
-{
-    match value {
-        Value::Array(items) => all_sizes(alloc, items),
-        _ => Ok(None),
-    }
-}
-
 fn sizes_in(alloc: Global, member: Option<Value>) -> Result<Vec<NonZeroU64>, Unread>
     ensures { Reads (λ v. map non_zero_u64_get v.items)
         (list_in non_zero_size (option_map view member)) result }
 {
-    let value = present(member, "chunks")?;
-    sizes_of(alloc, value)?.ok_or(Unread::Wrong(
-        "chunks",
-        "is no list of whole numbers from 1 to 2^64 - 1",
-    ))
+    let wrong = Unread::Wrong("chunks", "is no list of whole numbers from 1 to 2^64 - 1");
+    match present(member, "chunks")? {
+        Value::Array(items) => all_sizes(alloc, items)?.ok_or(wrong),
+        _ => Err(wrong),
+    }
 }
 
 fn data_type_in(member: Option<Value>) -> Result<DataTypeMetadataV2, Unread>

@@ -32,10 +32,7 @@ pub fn attributes_from_slice(
     ensures refused { IfErr result (RefusesReading (attributes_said bytes.now)) }
 {
     let value = value_from_slice(alloc, bytes)?;
-    match plain_members(value) {
-        Some(members) => Ok(members),
-        None => Err(MetadataError::InvalidShape),
-    }
+    plain_members(value).ok_or(MetadataError::InvalidShape)
 }
 
 /// Returns an object as bytes, indented.

@@ -33,7 +33,11 @@ fn copied_names(alloc: Global, names: &Vec<DimensionName>) -> Result<Vec<Dimensi
     Ok(copies)
 }
 
-pub(crate) fn copied_dimension_names(
+/// Returns a copy of the names, if there are names.
+///
+/// # Errors
+/// `AllocError`: out of memory.
+pub fn copied_dimension_names(
     alloc: Global,
     names: &Option<Vec<DimensionName>>,
 ) -> Result<Option<Vec<DimensionName>>, AllocError>

@@ -90,10 +90,7 @@ impl AdditionalFieldV3 {
 fn is_unneeded(value: &Value) -> bool
     ensures { result ≡ is_unneeded (view value.now) }
 {
-    match value.get("must_understand").and_then(Value::as_bool) {
-        Some(must) => !must,
-        None => false,
-    }
+    matches!(value.get("must_understand").and_then(Value::as_bool), Some(must) if !must)
 }
 
 fn without_flag(value: Value) -> Value
@@ -159,7 +156,10 @@ pub(crate) fn written_fields(
 }
 
 /// Returns a copy of the fields.
-pub(crate) fn copied_fields(fields: &AdditionalFieldsV3) -> Result<AdditionalFieldsV3, AllocError>
+///
+/// # Errors
+/// `AllocError`: out of memory.
+pub fn copied_fields(fields: &AdditionalFieldsV3) -> Result<AdditionalFieldsV3, AllocError>
     ensures { IfOk result (λ copy. fields_view copy.entries ≡ fields_view fields.now.entries) }
 {
     fields.clone()

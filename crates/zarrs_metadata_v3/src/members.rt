@@ -139,20 +139,14 @@ pub fn object_value(members: &Map<String, Value>) -> Result<Option<Value>, Alloc
 pub fn reads_as_number(member: &Option<Value>, wanted: u64) -> bool
     ensures { result ≡ reads_as_number wanted (option_map view member.now) }
 {
-    match member {
-        Some(value) => matches!(value.as_u64(), Some(number) if number == wanted),
-        None => false,
-    }
+    matches!(member.as_ref().and_then(Value::as_u64), Some(number) if number == wanted)
 }
 
 /// Returns whether the member is this text.
 pub fn reads_as_text(member: &Option<Value>, wanted: &str) -> bool
     ensures { result ≡ reads_as_text wanted.now (option_map view member.now) }
 {
-    match member {
-        Some(value) => matches!(value.as_str(), Some(text) if text == wanted),
-        None => false,
-    }
+    matches!(member.as_ref().and_then(Value::as_str), Some(text) if text == wanted)
 }
 
 /// Reads the list of whole numbers below 2^64 that the member of this name is.

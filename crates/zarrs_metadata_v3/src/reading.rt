@@ -3,7 +3,7 @@ ghost use Rattle.std.specs.Prelude.{◌≡◌, map, is_ok, option_map, option_an
 ghost use Rattle.serde_json.specs.Data.{Members};
 ghost use Rattle.serde_json.specs.View.{view, items_view, members_view};
 ghost use Rattle.zarrs_metadata_parts.specs.Members.{besides};
-ghost use Rattle.zarrs_metadata_parts.specs.Lists.{all_of, list_of};
+ghost use Rattle.zarrs_metadata_parts.specs.Lists.{all_of};
 ghost use Rattle.zarrs_metadata_parts.specs.Extension.{extension_of, extension_view};
 ghost use Rattle.zarrs_metadata_v3.specs.Members.{list_in};
 ghost use Rattle.zarrs_metadata_v3.specs.Document.{dimension_name_of, transformers_in, names_in};
@@ -50,12 +50,7 @@ pub(crate) fn read_document(
 ) -> Result<ArrayMetadataV3, Unread>
     ensures { Reads document_view (document_from (members_view members.entries)) result }
 {
-    document_from(alloc, Parts::take(members))
-}
-
-fn document_from(alloc: Global, parts: Parts) -> Result<ArrayMetadataV3, Unread>
-    ensures { (ms : Members) → AreParts ms parts → Reads document_view (document_from ms) result }
-{
+    let parts = Parts::take(members);
     parts.check_array()?;
     parts.read(alloc)
 }
@@ -119,17 +114,11 @@ impl Parts {
     }
 }
 
-fn extension_from(value: Value) -> Option<MetadataV3>
-    ensures { option_map extension_view result ≡ extension_of (view value) }
-{
-    MetadataV3::from_value(value).ok()
-}
-
 fn extension_in(member: Option<Value>, name: &'static str) -> Result<MetadataV3, Unread>
     ensures { Reads extension_view (option_and_then extension_of (option_map view member)) result }
 {
     let value = present(member, name)?;
-    extension_from(value).ok_or(Unread::Wrong(name, "is no extension point"))
+    MetadataV3::from_value(value).map_err(|_| Unread::Wrong(name, "is no extension point"))
 }
 
 fn all_extensions(alloc: Global, items: Vec<Value>) -> Result<Option<Vec<MetadataV3>>, AllocError>
@@ -138,22 +127,12 @@ fn all_extensions(alloc: Global, items: Vec<Value>) -> Result<Option<Vec<Metadat
 {
     let mut extensions = Vec::new(alloc);
     for item in items {
-        match extension_from(item) {
-            Some(extension) => extensions.push(extension)?,
-            None => return Ok(None),
+        match MetadataV3::from_value(item) {
+            Ok(extension) => extensions.push(extension)?,
+            Err(_) => return Ok(None),
         }
     }
     Ok(Some(extensions))
-}
-
-fn extensions_of(alloc: Global, value: Value) -> Result<Option<Vec<MetadataV3>>, AllocError>
-    ensures { IfOk result (λ o. option_map (λ v. map extension_view v.items) o
-        ≡ list_of extension_of (view value)) }
-{
-    match value {
-        Value::Array(items) => all_extensions(alloc, items),
-        _ => Ok(None),
-    }
 }
 
 fn extensions_in(
@@ -164,8 +143,11 @@ fn extensions_in(
     ensures { Reads (λ v. map extension_view v.items) (list_in extension_of (option_map view member))
         result }
 {
-    let value = present(member, name)?;
-    extensions_of(alloc, value)?.ok_or(Unread::Wrong(name, "is no list of extension points"))
+    let wrong = Unread::Wrong(name, "is no list of extension points");
+    match present(member, name)? {
+        Value::Array(items) => all_extensions(alloc, items)?.ok_or(wrong),
+        _ => Err(wrong),
+    }
 }
 
 fn transformers_in(alloc: Global, member: Option<Value>) -> Result<Vec<MetadataV3>, Unread>

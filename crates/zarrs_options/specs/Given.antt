@@ -29,4 +29,4 @@ given_extension (Sizes sizes) = Some (regular_extension sizes.items)
 
 -- the extension point that is given for a chunk grid, if it is one
 abbrev pub grid_given : ArrayBuilderChunkGridMetadata → Option ExtensionData
-grid_given g = given_extension g.given
+grid_given g = given_extension g.0

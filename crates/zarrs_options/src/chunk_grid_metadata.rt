@@ -24,9 +24,7 @@ enum Given {
 /// What says the metadata of a chunk grid: an extension point, a text that is its name or its JSON, or the shape of
 /// each chunk of a `regular` grid.
 #[derive(Debug, Drop)]
-pub struct ArrayBuilderChunkGridMetadata {
-    given: Given,
-}
+pub struct ArrayBuilderChunkGridMetadata(Given);
 
 impl ArrayBuilderChunkGridMetadata {
     ghost use Rattle.std.specs.Prelude.{IfOk, IfErr};
@@ -43,11 +41,11 @@ impl ArrayBuilderChunkGridMetadata {
         ensures refused { IfErr result (λ e. RefusesCreation
             (said_or chunk_grid (grid_given self.now)) (create_refusal_of e)) }
     {
-        match &self.given {
+        match &self.0 {
             Given::Metadata(metadata) => Ok(metadata.try_clone()?),
             Given::Text(text) => match extension_of_text(alloc, text.as_str())? {
                 Some(metadata) => Ok(metadata),
-                None => Err(no_metadata(alloc)),
+                None => Err(no_metadata(alloc)?),
             },
             Given::Sizes(sizes) => Ok(regular_metadata(alloc, sizes)?),
         }
@@ -58,24 +56,19 @@ ghost use Rattle.std.specs.Prelude.{None, IfOk};
 ghost use Rattle.zarrs_options.specs.Given.{grid_given, extension_of_text, regular_extension};
 ghost use Rattle.zarrs_options.specs.Refusals.{RefusesCreation, chunk_grid, create_refusal_of, said_or};
 
-fn no_metadata(alloc: Global) -> ArrayCreateError
-    ensures { RefusesCreation (said_or {A = Unit {0}} chunk_grid None) (create_refusal_of result) }
+fn no_metadata(alloc: Global) -> Result<ArrayCreateError, AllocError>
+    ensures { IfOk result (λ e. RefusesCreation (said_or {A = Unit {0}} chunk_grid None)
+        (create_refusal_of e)) }
 {
-    match PluginCreateError::other(alloc, "the text is no metadata of a chunk grid") {
-        PluginCreateError::OutOfMemory => ArrayCreateError::OutOfMemory,
-        error => ArrayCreateError::ChunkGridCreateError(error),
-    }
+    let text = String::from_str(alloc, "the text is no metadata of a chunk grid")?;
+    Ok(ArrayCreateError::ChunkGridCreateError(PluginCreateError::Other(text)))
 }
 
 fn regular_metadata(alloc: Global, sizes: &[u64]) -> Result<MetadataV3, AllocError>
     ensures { IfOk result (λ m. extension_view m ≡ regular_extension sizes.now) }
 {
     let chunk_shape = numbers_value(alloc, sizes)?;
-    MetadataV3::new(String::from_str(alloc, "regular")?).with_member(
-        alloc,
-        "chunk_shape",
-        chunk_shape,
-    )
+    MetadataV3::with_one_member(alloc, "regular", "chunk_shape", chunk_shape)
 }
 
 impl IntoField<ArrayBuilderChunkGridMetadata> for ArrayBuilderChunkGridMetadata {
@@ -95,9 +88,7 @@ impl IntoField<ArrayBuilderChunkGridMetadata> for MetadataV3 {
         ensures field { IfOk result (λ field. grid_given field ≡ Some (extension_view self)) }
         ensures made { IsOk result }
     {
-        Ok(ArrayBuilderChunkGridMetadata {
-            given: Given::Metadata(self),
-        })
+        Ok(ArrayBuilderChunkGridMetadata(Given::Metadata(self)))
     }
 }
 
@@ -109,9 +100,7 @@ impl IntoField<ArrayBuilderChunkGridMetadata> for String {
             (λ field. grid_given field ≡ extension_of_text (string_bytes self)) }
         ensures made { IsOk result }
     {
-        Ok(ArrayBuilderChunkGridMetadata {
-            given: Given::Text(self),
-        })
+        Ok(ArrayBuilderChunkGridMetadata(Given::Text(self)))
     }
 }
 
@@ -119,9 +108,7 @@ impl IntoField<ArrayBuilderChunkGridMetadata> for &str {
     ghost gives = { λ text field. grid_given field ≡ extension_of_text text.now };
 
     fn into_field(self, alloc: Global) -> Result<ArrayBuilderChunkGridMetadata, AllocError> {
-        Ok(ArrayBuilderChunkGridMetadata {
-            given: Given::Text(String::from_str(alloc, self)?),
-        })
+        String::from_str(alloc, self)?.into_field(alloc)
     }
 }
 
@@ -133,9 +120,7 @@ impl IntoField<ArrayBuilderChunkGridMetadata> for Vec<u64> {
             (λ field. grid_given field ≡ Some (regular_extension self.items)) }
         ensures made { IsOk result }
     {
-        Ok(ArrayBuilderChunkGridMetadata {
-            given: Given::Sizes(self),
-        })
+        Ok(ArrayBuilderChunkGridMetadata(Given::Sizes(self)))
     }
 }
 
@@ -143,9 +128,7 @@ impl IntoField<ArrayBuilderChunkGridMetadata> for &[u64] {
     ghost gives = { λ sizes field. grid_given field ≡ Some (regular_extension sizes.now) };
 
     fn into_field(self, alloc: Global) -> Result<ArrayBuilderChunkGridMetadata, AllocError> {
-        Ok(ArrayBuilderChunkGridMetadata {
-            given: Given::Sizes(Vec::from_slice(alloc, self)?),
-        })
+        Vec::from_slice(alloc, self)?.into_field(alloc)
     }
 }
 
@@ -153,9 +136,7 @@ impl<const N: usize> IntoField<ArrayBuilderChunkGridMetadata> for [u64; N] {
     ghost gives = { λ sizes field. grid_given field ≡ Some (regular_extension sizes) };
 
     fn into_field(self, alloc: Global) -> Result<ArrayBuilderChunkGridMetadata, AllocError> {
-        Ok(ArrayBuilderChunkGridMetadata {
-            given: Given::Sizes(Vec::from_slice(alloc, &self)?),
-        })
+        Vec::from_slice(alloc, &self)?.into_field(alloc)
     }
 }
 
@@ -163,9 +144,7 @@ impl<const N: usize> IntoField<ArrayBuilderChunkGridMetadata> for &[u64; N] {
     ghost gives = { λ sizes field. grid_given field ≡ Some (regular_extension sizes.now) };
 
     fn into_field(self, alloc: Global) -> Result<ArrayBuilderChunkGridMetadata, AllocError> {
-        Ok(ArrayBuilderChunkGridMetadata {
-            given: Given::Sizes(Vec::from_slice(alloc, self)?),
-        })
+        Vec::from_slice(alloc, self)?.into_field(alloc)
     }
 }
 
@@ -174,9 +153,7 @@ impl IntoField<ArrayBuilderChunkGridMetadata> for Vec<NonZeroU64> {
         ≡ Some (regular_extension (map non_zero_u64_get sizes.items)) };
 
     fn into_field(self, alloc: Global) -> Result<ArrayBuilderChunkGridMetadata, AllocError> {
-        Ok(ArrayBuilderChunkGridMetadata {
-            given: Given::Sizes(chunk_shape_to_array_shape(alloc, &self)?),
-        })
+        chunk_shape_to_array_shape(alloc, &self)?.into_field(alloc)
     }
 }
 
@@ -185,9 +162,7 @@ impl IntoField<ArrayBuilderChunkGridMetadata> for &[NonZeroU64] {
         ≡ Some (regular_extension (map non_zero_u64_get sizes.now)) };
 
     fn into_field(self, alloc: Global) -> Result<ArrayBuilderChunkGridMetadata, AllocError> {
-        Ok(ArrayBuilderChunkGridMetadata {
-            given: Given::Sizes(chunk_shape_to_array_shape(alloc, self)?),
-        })
+        chunk_shape_to_array_shape(alloc, self)?.into_field(alloc)
     }
 }
 
@@ -196,9 +171,7 @@ impl<const N: usize> IntoField<ArrayBuilderChunkGridMetadata> for [NonZeroU64; N
         ≡ Some (regular_extension (map non_zero_u64_get sizes)) };
 
     fn into_field(self, alloc: Global) -> Result<ArrayBuilderChunkGridMetadata, AllocError> {
-        Ok(ArrayBuilderChunkGridMetadata {
-            given: Given::Sizes(chunk_shape_to_array_shape(alloc, &self)?),
-        })
+        chunk_shape_to_array_shape(alloc, &self)?.into_field(alloc)
     }
 }
 
@@ -207,8 +180,6 @@ impl<const N: usize> IntoField<ArrayBuilderChunkGridMetadata> for &[NonZeroU64; 
         ≡ Some (regular_extension (map non_zero_u64_get sizes.now)) };
 
     fn into_field(self, alloc: Global) -> Result<ArrayBuilderChunkGridMetadata, AllocError> {
-        Ok(ArrayBuilderChunkGridMetadata {
-            given: Given::Sizes(chunk_shape_to_array_shape(alloc, self)?),
-        })
+        chunk_shape_to_array_shape(alloc, self)?.into_field(alloc)
     }
 }

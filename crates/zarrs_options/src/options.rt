@@ -49,29 +49,21 @@ impl ArrayMetadataOptions {
     }
 
     /// Returns the options with these ones of the metadata of the codecs.
-    pub fn with_codec_metadata_options(
-        self,
-        codec_metadata_options: CodecMetadataOptions,
-    ) -> ArrayMetadataOptions
-        ensures set { codec_metadata_options_of result ≡ codec_metadata_options }
+    pub fn with_codec_metadata_options(mut self, options: CodecMetadataOptions) -> Self
+        ensures set { codec_metadata_options_of result ≡ options }
         ensures kept { options_view result ≡ options_view self }
     {
-        ArrayMetadataOptions {
-            codec_metadata_options,
-            ..self
-        }
+        self.codec_metadata_options = options;
+        self
     }
 
     /// Sets the options of the metadata of the codecs.
-    pub fn set_codec_metadata_options(
-        &mut self,
-        codec_metadata_options: CodecMetadataOptions,
-    ) -> &mut Self
+    pub fn set_codec_metadata_options(&mut self, options: CodecMetadataOptions) -> &mut Self
         ensures same_loan { result.ghost_name ≡ self.entry.ghost_name }
-        ensures set { codec_metadata_options_of result.now ≡ codec_metadata_options }
+        ensures set { codec_metadata_options_of result.now ≡ options }
         ensures kept { options_view result.now ≡ options_view self.old }
     {
-        self.codec_metadata_options = codec_metadata_options;
+        self.codec_metadata_options = options;
         self
     }
 
@@ -83,29 +75,21 @@ impl ArrayMetadataOptions {
     }
 
     /// Returns the options with this version.
-    pub fn with_metadata_convert_version(
-        self,
-        convert_version: MetadataConvertVersion,
-    ) -> ArrayMetadataOptions
+    pub fn with_metadata_convert_version(mut self, version: MetadataConvertVersion) -> Self
         ensures { options_view result
-            ≡ record (options_view self) { convert_version = convert_version } }
+            ≡ record (options_view self) { convert_version = version } }
     {
-        ArrayMetadataOptions {
-            convert_version,
-            ..self
-        }
+        self.convert_version = version;
+        self
     }
 
     /// Sets the version.
-    pub fn set_metadata_convert_version(
-        &mut self,
-        convert_version: MetadataConvertVersion,
-    ) -> &mut Self
+    pub fn set_metadata_convert_version(&mut self, version: MetadataConvertVersion) -> &mut Self
         ensures same_loan { result.ghost_name ≡ self.entry.ghost_name }
         ensures set { options_view result.now
-            ≡ record (options_view self.old) { convert_version = convert_version } }
+            ≡ record (options_view self.old) { convert_version = version } }
     {
-        self.convert_version = convert_version;
+        self.convert_version = version;
         self
     }
 
@@ -117,14 +101,12 @@ impl ArrayMetadataOptions {
     }
 
     /// Returns the options with this choice of whether `_zarrs` is written.
-    pub fn with_include_zarrs_metadata(self, include_zarrs_metadata: bool) -> ArrayMetadataOptions
+    pub fn with_include_zarrs_metadata(mut self, include_zarrs_metadata: bool) -> Self
         ensures { options_view result
             ≡ record (options_view self) { include_zarrs_metadata = include_zarrs_metadata } }
     {
-        ArrayMetadataOptions {
-            include_zarrs_metadata,
-            ..self
-        }
+        self.include_zarrs_metadata = include_zarrs_metadata;
+        self
     }
 
     /// Sets whether `_zarrs` is written.
@@ -146,31 +128,21 @@ impl ArrayMetadataOptions {
     }
 
     /// Returns the options with this choice of whether aliases are written as main names.
-    pub fn with_convert_aliased_extension_names(
-        self,
-        convert_aliased_extension_names: bool,
-    ) -> ArrayMetadataOptions
-        ensures { options_view result ≡ record (options_view self) {
-          convert_aliased_extension_names = convert_aliased_extension_names;
-        } }
+    pub fn with_convert_aliased_extension_names(mut self, is_converted: bool) -> Self
+        ensures { options_view result
+            ≡ record (options_view self) { convert_aliased_extension_names = is_converted } }
     {
-        ArrayMetadataOptions {
-            convert_aliased_extension_names,
-            ..self
-        }
+        self.convert_aliased_extension_names = is_converted;
+        self
     }
 
     /// Sets whether aliases are written as main names.
-    pub fn set_convert_aliased_extension_names(
-        &mut self,
-        convert_aliased_extension_names: bool,
-    ) -> &mut Self
+    pub fn set_convert_aliased_extension_names(&mut self, is_converted: bool) -> &mut Self
         ensures same_loan { result.ghost_name ≡ self.entry.ghost_name }
-        ensures set { options_view result.now ≡ record (options_view self.old) {
-          convert_aliased_extension_names = convert_aliased_extension_names;
-        } }
+        ensures set { options_view result.now
+            ≡ record (options_view self.old) { convert_aliased_extension_names = is_converted } }
     {
-        self.convert_aliased_extension_names = convert_aliased_extension_names;
+        self.convert_aliased_extension_names = is_converted;
         self
     }
 }

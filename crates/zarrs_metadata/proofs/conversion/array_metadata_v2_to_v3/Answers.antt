@@ -2,21 +2,21 @@ use Rattle.std.proofs.Common.{◌≡◌, Some, None, Ok, option_map, sym, ap, �
 use Rattle.zarrs_metadata_parts.specs.FillValue.{fill_data}
 use Rattle.zarrs_metadata.specs.Conversion.{type_v2, fill_v3}
 use Rattle.zarrs_metadata_v2.specs.View.{document_v2_view}
-use Rattle.zarrs_metadata.proofs.ConversionLaws.{without_type, without_fill, without_codecs, with_all}
+use Rattle.zarrs_metadata.proofs.ConversionLaws.{none_of, without_type, without_fill, without_codecs, with_all}
 use Rattle.zarrs_metadata.proofs.conversion.array_metadata_v2_to_v3.Goals as goal
 
-pub returns-in-None-clause-refused : goal.returns-in-None-clause-refused
-returns-in-None-clause-refused c =
+pub returns-in_default-clause-refused : goal.returns-in_default-clause-refused
+returns-in_default-clause-refused c =
     let m = document_v2_view c.args.metadata.now in
-    let none : type_v2 m.dtype ≡ None = ap type_v2 (sym c.as_str.ensures) ∙ sym c.from_text.ensures ∙ c.in-None.is in
-    rw (c.in_ok-dtype-in-None.ensures.ok ∙ c.as_str-in-None.ensures) (without_type m none)
+    let none : type_v2 m.dtype ≡ None = ap type_v2 (sym c.as_str.ensures) ∙ sym c.from_text.ensures ∙ none_of _ c.in_default.not-Some in
+    rw (c.in_ok-dtype.ensures.ok ∙ c.as_str-in_default.ensures) (without_type m none)
 
-pub returns-in-None-2-clause-refused : goal.returns-in-None-2-clause-refused
-returns-in-None-2-clause-refused c =
+pub returns-in_default-2-clause-refused : goal.returns-in_default-2-clause-refused
+returns-in_default-2-clause-refused c =
     let m = document_v2_view c.args.metadata.now in
     let is : type_v2 m.dtype ≡ Some c.in-Some.cells = ap type_v2 (sym c.as_str.ensures) ∙ sym c.from_text.ensures ∙ c.in-Some.is in
-    let none : fill_v3 c.in-Some.cells.kind m.fill_value ≡ None = sym c.in_ok-fill_value.ensures ∙ ap (option_map fill_data) c.in-None-2.is in
-    rw (c.in_ok-from_str-in-None-2.ensures.ok ∙ c.as_str-in-None-2.ensures, c.in_ok-try_clone-in-None-2.ensures) (without_fill m c.in-Some.cells is none)
+    let none : fill_v3 c.in-Some.cells.kind m.fill_value ≡ None = sym c.in_ok-fill_value.ensures ∙ ap (option_map fill_data) (none_of _ c.in_default-2.not-Some) in
+    rw (c.in_ok-from_str.ensures.ok ∙ c.as_str-in_default-2.ensures, c.in_ok-try_clone.ensures) (without_fill m c.in-Some.cells is none)
 
 pub returns-then-not-is_uncompressed-clause-refused : goal.returns-then-not-is_uncompressed-clause-refused
 returns-then-not-is_uncompressed-clause-refused c =
