@@ -7,26 +7,8 @@ ghost use Rattle.zarrs_codec_array.specs.Gathered.{IsGathered, AreWithin, AreCol
 use std::alloc::AllocError;
 use zarrs_data_type::{ArrayBytesVariableLength, VariableLengthBuilder};
 
-// Does what `gather` says in one dimension, with cells of `N` bytes.
-fn gather_cells<const N: usize>(
-    to: &mut [u8],
-    from: &[u8],
-    extent: usize,
-    step: usize,
-    start: usize,
-)
-    requires len { length to.old ≡ extent * N }
-    requires within { AreWithin N (extent ∷ []) (step ∷ []) start (length from.now) }
-    ensures { IsGathered N (extent ∷ []) (step ∷ []) start from.now to.new }
-{
-    for i in 0..extent {
-        let write = i * N;
-        let read = start + i * step;
-        to[write..write + N].copy_from_slice(&from[read..read + N]);
-    }
-}
-
-// The same with cells of `size` bytes.
+// Does what `gather` says in one dimension. Where the size is known, the compiler moves a cell as one number.
+#[inline(always)]
 fn gather_pieces(to: &mut [u8], from: &[u8], size: usize, extent: usize, step: usize, start: usize)
     requires len { length to.old ≡ extent * size }
     requires within { AreWithin size (extent ∷ []) (step ∷ []) start (length from.now) }
@@ -62,10 +44,10 @@ fn gather_line(to: &mut [u8], from: &[u8], size: usize, extent: usize, step: usi
         return;
     }
     match size {
-        1 => gather_cells::<1>(to, from, extent, step, start),
-        2 => gather_cells::<2>(to, from, extent, step, start),
-        4 => gather_cells::<4>(to, from, extent, step, start),
-        8 => gather_cells::<8>(to, from, extent, step, start),
+        1 => gather_pieces(to, from, 1, extent, step, start),
+        2 => gather_pieces(to, from, 2, extent, step, start),
+        4 => gather_pieces(to, from, 4, extent, step, start),
+        8 => gather_pieces(to, from, 8, extent, step, start),
         _ => gather_pieces(to, from, size, extent, step, start),
     }
 }

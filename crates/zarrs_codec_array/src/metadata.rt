@@ -2,10 +2,10 @@
 ghost use Rattle.std.specs.Prelude.{◌≡◌, Some, None, map, option_map, option_and_then, IfOk, IfErr};
 ghost use Rattle.std.specs.Prelude.{if◌then◌else◌};
 ghost use Rattle.std.specs.Int.NonZero.{non_zero_u64_get};
-ghost use Rattle.serde_json.specs.View.{view, items_view};
+ghost use Rattle.serde_json.specs.View.{view};
 ghost use Rattle.serde_json.specs.Find.{as_number, as_i64};
 ghost use Rattle.zarrs_metadata_parts.specs.Extension.{extension_view, settings};
-ghost use Rattle.zarrs_metadata_parts.specs.Lists.{all_of, list_of, list_data, number_of};
+ghost use Rattle.zarrs_metadata_parts.specs.Lists.{list_of, list_data, number_of};
 ghost use Rattle.zarrs_metadata_parts.specs.Refusals.{RefusesMeaning};
 ghost use Rattle.zarrs_codec_array.specs.Arrays.{size, rest};
 ghost use Rattle.zarrs_codec_array.specs.Extents.{extent_view, extents_view};
@@ -63,20 +63,12 @@ impl ArrayToArrayCodec {
     {
         match self {
             ArrayToArrayCodec::Transpose(codec) => {
-                with_member(
-                    alloc,
-                    "transpose",
-                    "order",
-                    numbers_value(alloc, codec.order())?,
-                )
+                let order = numbers_value(alloc, codec.order())?;
+                with_member(alloc, "transpose", "order", order)
             }
             ArrayToArrayCodec::Reshape(codec) => {
-                with_member(
-                    alloc,
-                    "reshape",
-                    "shape",
-                    extents_value(alloc, codec.entries())?,
-                )
+                let shape = extents_value(alloc, codec.entries())?;
+                with_member(alloc, "reshape", "shape", shape)
             }
             ArrayToArrayCodec::Squeeze(_) => {
                 Ok(MetadataV3::new(String::from_str(alloc, "squeeze")?))
@@ -111,10 +103,7 @@ fn transpose_from(
     let Some(order) = numbers(alloc, value)? else {
         return Ok(None);
     };
-    match TransposeCodec::new(alloc, order)? {
-        Some(codec) => Ok(Some(ArrayToArrayCodec::Transpose(codec))),
-        None => Ok(None),
-    }
+    Ok(TransposeCodec::new(alloc, order)?.map(ArrayToArrayCodec::Transpose))
 }
 
 fn reshape_from(
@@ -130,21 +119,15 @@ fn reshape_from(
     let Some(entries) = extents_from(alloc, value)? else {
         return Ok(None);
     };
-    match ReshapeCodec::new(alloc, entries)? {
-        Some(codec) => Ok(Some(ArrayToArrayCodec::Reshape(codec))),
-        None => Ok(None),
-    }
+    Ok(ReshapeCodec::new(alloc, entries)?.map(ArrayToArrayCodec::Reshape))
 }
 
 fn squeeze_from(metadata: &MetadataV3) -> Option<ArrayToArrayCodec>
     ensures { option_map array_codec_data result
         ≡ squeeze_said (settings (extension_view metadata.now)) }
 {
-    if metadata.has_only(&[]) {
-        Some(ArrayToArrayCodec::Squeeze(SqueezeCodec))
-    } else {
-        None
-    }
+    let codec = ArrayToArrayCodec::Squeeze(SqueezeCodec);
+    metadata.has_only(&[]).then_some(codec)
 }
 
 /// Returns the one member of the configuration, if it has this name.
@@ -162,16 +145,9 @@ fn extents_from(alloc: Global, value: &Value) -> Result<Option<Vec<ReshapeExtent
     ensures { IfOk result (λ found. option_map (λ entries. extents_view entries.items) found
         ≡ list_of extent_said (view value.now)) }
 {
-    match value.as_array() {
-        Some(items) => all_extents(alloc, items),
-        None => Ok(None),
-    }
-}
-
-fn all_extents(alloc: Global, items: &Vec<Value>) -> Result<Option<Vec<ReshapeExtent>>, AllocError>
-    ensures { IfOk result (λ found. option_map (λ entries. extents_view entries.items) found
-        ≡ all_of extent_said (items_view items.now.items)) }
-{
+    let Some(items) = value.as_array() else {
+        return Ok(None);
+    };
     let mut entries = Vec::with_capacity(alloc, items.len())?;
     for item in items {
         match extent_from(alloc, item)? {
@@ -192,10 +168,7 @@ fn extent_from(alloc: Global, value: &Value) -> Result<Option<ReshapeExtent>, Al
     if is_minus_one(value) {
         return Ok(Some(ReshapeExtent::Rest));
     }
-    match numbers(alloc, value)? {
-        Some(dimensions) => Ok(Some(ReshapeExtent::ProductOf(dimensions))),
-        None => Ok(None),
-    }
+    Ok(numbers(alloc, value)?.map(ReshapeExtent::ProductOf))
 }
 
 fn size_from(value: &Value) -> Option<NonZeroU64>

@@ -1,5 +1,5 @@
 -- The index of a shard, and whether the bytes are one.
-use Rattle.std.proofs.Common.{◌≡◌, ℕ, ◌+◌, ◌-◌, ◌*◌, ◌<◌, ◌≤◌, Bool, true, false, cond, ◌||◌, ◌&&◌, List, length, take, drop, Option, None, Some, map, refl, sym, ap, ◌∙◌, arith}
+use Rattle.std.proofs.Common.{◌≡◌, ℕ, ◌+◌, ◌-◌, ◌*◌, ◌<◌, ◌≤◌, Bool, true, false, cond, ◌||◌, ◌&&◌, List, length, take, drop, Option, None, Some, map, refl, sym, ap, subst, ◌∙◌, arith}
 use Rattle.std.specs.Prelude.{is_some, nat_le, nat_lt, slice_range}
 use Rattle.std.specs.List.{list_any, range_with_len}
 use Rattle.std.proofs.lemmas.Bool.{and_from, le-leb, lt-leb, lt-ltb}
@@ -59,6 +59,13 @@ index_at false count len first last start end encoded len_is long first_is last_
       places = λ x from to. le-leb front x (omega arith);
     }
 
+-- the same of a number that is theirs
+pub placed : (at_start : Bool) (count n len first last start end : ℕ) (encoded : List ℕ) → n ≡ count → length encoded ≡ len → n * 16 ≤ len → first ≡ cond at_start 0 (len - n * 16)
+    → last ≡ cond at_start (n * 16) len → start ≡ cond at_start (n * 16) 0 → end ≡ cond at_start len (len - n * 16)
+    → IsIndexAt at_start count first last start end encoded
+placed at_start count n len first last start end encoded n_is len_is long first_is last_is start_is end_is =
+    subst (λ x. IsIndexAt at_start x first last start end encoded) n_is (index_at at_start n len first last start end encoded len_is long first_is last_is start_is end_is)
+
 pub length-index_in : (at_start : Bool) (count : ℕ) (encoded : List ℕ) → count * 16 ≤ length encoded → length (index_in at_start count encoded) ≡ count * 16
 length-index_in true count encoded long = length-take-le (count * 16) encoded long
 length-index_in false count encoded long = omega (arith, length-drop (length encoded - count * 16) encoded)
@@ -109,6 +116,14 @@ tested_parts at_start count encoded index start end found long index_is start_is
     ∙ ap (λ x. is_some (all_present (map (named_part encoded x (data_end at_start count (length encoded))) (pieces 16 count index)))) (sym start_is)
     ∙ ap (λ x. is_some (all_present (map (named_part encoded start x) (pieces 16 count index)))) (sym end_is)
     ∙ sym test
+
+-- of an index that was read
+pub tested_index : (at_start : Bool) (count n first last start end : ℕ) (encoded index : List ℕ) (found : Bool) → IsIndexAt at_start count first last start end encoded → n ≡ count → index ≡ slice_range encoded first last
+    → found ≡ is_some (all_present (map (named_part encoded start end) (pieces 16 n index))) → is_some (shard_parts at_start count encoded) ≡ found
+tested_index at_start count n first last start end encoded index found at n_is index_is test =
+    let long : count * 16 ≤ length encoded = omega (arith, at.within, at.width, ap length at.index_is, at.index_len) in
+    tested_parts at_start count encoded index start end found long (index_is ∙ at.index_is) at.start_is at.end_is
+    (test ∙ ap (λ x. is_some (all_present (map (named_part encoded start end) (pieces 16 x index)))) n_is)
 
 pub no_entries : (at_start : Bool) (s sub encoded : List ℕ) → is_some (shard_parts at_start (subchunk_count s sub) encoded) ≡ false → IsNoShard at_start s sub encoded
 no_entries at_start s sub encoded none = no_parts at_start s sub encoded (is_none (shard_parts at_start (subchunk_count s sub) encoded) none)

@@ -1,11 +1,11 @@
 //! The boxes of subchunks, and of a part of their shard.
 ghost use Rattle.std.specs.Prelude.{◌≡◌, ◌+◌, ◌/◌, ◌≤◌, ◌<◌, ◌^◌, ◌&&◌, ℕ, List, true, IfOk, length, slice_index};
 ghost use Rattle.zarrs_codec_shard.specs.Subchunks.{is_cut_by};
-ghost use Rattle.zarrs_subset.specs.Regions.{LiesInShape, box_of, in_box, overlap_of, seen_from, shifted_box};
+ghost use Rattle.zarrs_subset.specs.Regions.{LiesInShape, box_of, in_box, overlap_of, seen_from};
 ghost use Rattle.zarrs_codec_chain.specs.ShardParts.{MeetsPart};
 
 use std::alloc::{AllocError, Global};
-use zarrs_subset::{ArraySubset, ArraySubsetError};
+use zarrs_subset::ArraySubset;
 
 /// The positions that both boxes have.
 pub fn common_part(
@@ -19,11 +19,7 @@ pub fn common_part(
     ensures value { IfOk result (λ shared. box_of shared
         ≡ overlap_of (box_of part.now) (box_of subset.now)) }
 {
-    match part.overlap(alloc, subset) {
-        Ok(shared) => Ok(shared),
-        Err(ArraySubsetError::OutOfMemory) => Err(AllocError),
-        Err(_) => unreachable!(),
-    }
+    part.shared_with(alloc, subset)
 }
 
 /// The box as it is seen from a corner before it.
@@ -37,29 +33,7 @@ pub fn seen_from_corner(
         → slice_index corner.now k ≤ slice_index (box_of shared.now).start k }
     ensures { IfOk result (λ own. box_of own ≡ seen_from (box_of shared.now) corner.now) }
 {
-    match shared.relative_to(alloc, corner) {
-        Ok(own) => Ok(own),
-        Err(ArraySubsetError::OutOfMemory) => Err(AllocError),
-        Err(_) => unreachable!(),
-    }
-}
-
-/// A box that is seen from a corner, in the array where the corner lies.
-pub(crate) fn shifted_to(
-    alloc: Global,
-    subset: &ArraySubset,
-    corner: &[u64],
-) -> Result<ArraySubset, AllocError>
-    requires dimensions { length corner.now ≡ length (box_of subset.now).start }
-    requires ends { (k : ℕ) → k < length corner.now → slice_index (box_of subset.now).start k
-        + slice_index (box_of subset.now).shape k + slice_index corner.now k < 2 ^ 64 }
-    ensures { IfOk result (λ own. box_of own ≡ shifted_box (box_of subset.now) corner.now) }
-{
-    match subset.shifted_by(alloc, corner) {
-        Ok(own) => Ok(own),
-        Err(ArraySubsetError::OutOfMemory) => Err(AllocError),
-        Err(_) => unreachable!(),
-    }
+    shared.seen_from(alloc, corner)
 }
 
 /// The indices of the subchunks that a part meets, as a box.

@@ -9,7 +9,7 @@ ghost use Rattle.zarrs_subset.specs.Regions.{LiesInBox, LiesInShape, box_of, see
 ghost use Rattle.zarrs_codec_chain.specs.ShardReads.{part_places, shard_read};
 ghost use Rattle.zarrs_codec_chain.specs.Stored.{MayReadOf, bytes_of, refuses_of};
 
-use crate::shard::{common_part, met_subchunks, seen_from_corner, shifted_to};
+use crate::shard::{common_part, met_subchunks, seen_from_corner};
 use crate::stored::Stored;
 use std::alloc::{AllocError, Global};
 use zarrs_codec_leaf::{ByteSource, SourceBytes};
@@ -221,7 +221,7 @@ impl<'s, 'p, B: ByteSource> ShardPart<'s, 'p, B> {
             (box_of region.now).shape (read_of self.now).sub number) (box_of region.now).start) }
     {
         let subset = self.subchunks.subset(alloc, number)?;
-        shifted_to(alloc, &subset, region.start())
+        subset.shifted(alloc, region.start())
     }
 }
 
@@ -241,7 +241,7 @@ pub fn moved_to(
         (box_of part.now).start) (box_of region.now).start) }
 {
     let seen = seen_from_corner(alloc, shared, part.start())?;
-    shifted_to(alloc, &seen, region.start())
+    seen.shifted(alloc, region.start())
 }
 
 /// Whether so many bytes are shorter than the index of so many subchunks.

@@ -1,6 +1,6 @@
 //! Bytes that stand one after another in a source.
 ghost use Rattle.std.specs.Prelude.{◌≡◌, ◌<◌, ◌^◌, length};
-ghost use Rattle.zarrs_codec_leaf.specs.Sources.{IsWindow, window_bytes};
+ghost use Rattle.zarrs_codec_leaf.specs.Sources.{IsWindow};
 
 use std::alloc::{AllocError, Global};
 use zarrs_codec_leaf::{ByteSource, SourceBytes, Window};
@@ -55,7 +55,7 @@ impl<'s, B: ByteSource> Stored<'s, B> {
         ensures { IfSome result (λ bytes. bytes.now ≡ bytes_of self.now) }
     {
         let bytes = self.source.lent()?;
-        Some(window_of(self.window, bytes))
+        Some(self.window.slice(bytes))
     }
 
     /// Those from `start` up to `end`.
@@ -75,14 +75,4 @@ impl<'s, B: ByteSource> Stored<'s, B> {
             },
         }
     }
-}
-
-/// The bytes of the window, out of all of them.
-fn window_of(window: Window, bytes: &[u8]) -> &[u8]
-    requires { IsWindow window bytes.now }
-    ensures { result.now ≡ window_bytes window bytes.now }
-{
-    let start = window.offset as usize;
-    let end = start + window.len as usize;
-    &bytes[start..end]
 }

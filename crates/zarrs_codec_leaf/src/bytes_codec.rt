@@ -47,18 +47,14 @@ impl BytesCodec {
     pub fn little() -> BytesCodec
         ensures { endian_of result ≡ Some Little }
     {
-        BytesCodec {
-            endian: Some(Endianness::Little),
-        }
+        BytesCodec::new(Some(Endianness::Little))
     }
 
     /// The codec that writes the highest byte of a number first.
     pub fn big() -> BytesCodec
         ensures { endian_of result ≡ Some Big }
     {
-        BytesCodec {
-            endian: Some(Endianness::Big),
-        }
+        BytesCodec::new(Some(Endianness::Big))
     }
 
     /// The endian, if there is one.
@@ -237,11 +233,15 @@ impl LeafCodec for BytesCodec {
 fn has_byte_order(data_type: &DataType) -> bool
     ensures { result ≡ has_byte_order (kind data_type.now) }
 {
-    match data_type {
-        DataType::Int16 | DataType::Int32 | DataType::Int64 => true,
-        DataType::UInt16 | DataType::UInt32 | DataType::UInt64 => true,
-        _ => false,
-    }
+    matches!(
+        data_type,
+        DataType::Int16
+            | DataType::Int32
+            | DataType::Int64
+            | DataType::UInt16
+            | DataType::UInt32
+            | DataType::UInt64
+    )
 }
 
 /// The bytes of a number in reverse.

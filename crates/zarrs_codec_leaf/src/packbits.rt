@@ -129,9 +129,5 @@ impl Writing<u8, 8> for Bits {
 fn are_zero(bits: &[u8]) -> bool
     ensures { result ≡ are_zero bits.now }
 {
-    let mut zero = true;
-    for bit in bits {
-        zero &= *bit == 0;
-    }
-    zero
+    bits.iter().all(|bit| *bit == 0)
 }

@@ -39,7 +39,7 @@ pub struct Window {
 
 impl Window {
     /// The bytes of the window, out of all of them.
-    pub(crate) fn slice(self, bytes: &[u8]) -> &[u8]
+    pub fn slice(self, bytes: &[u8]) -> &[u8]
         requires { IsWindow self bytes.now }
         ensures { result.now ≡ window_bytes self bytes.now }
     {

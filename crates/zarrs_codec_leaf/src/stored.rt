@@ -48,15 +48,15 @@ impl<'a, S: ReadableStorageTraits> StoredValue<'a, S> {
             Some(bytes) => Some(bytes.len() as u64),
             None => store.size_key(alloc, key)?,
         };
-        match size {
-            Some(size) => Ok(Some(StoredValue {
-                store,
-                key,
-                size,
-                lent,
-            })),
-            None => Ok(None),
-        }
+        let Some(size) = size else {
+            return Ok(None);
+        };
+        Ok(Some(StoredValue {
+            store,
+            key,
+            size,
+            lent,
+        }))
     }
 }
 

@@ -75,8 +75,7 @@ impl<C: StringsCodec> LeafCodec for C {
         }
         match bytes {
             ArrayBytes::Variable(strings) => {
-                let made = C::write(alloc, strings)?;
-                match made {
+                match C::write(alloc, strings)? {
                     Some(encoded) => Ok(encoded),
                     None => Err(CodecError::SizeOverflow),
                 }
@@ -96,17 +95,14 @@ impl<C: StringsCodec> LeafCodec for C {
         if !C::takes_type(data_type) {
             return Err(CodecError::DoesNotFit(Misfit::TypeOrShape));
         }
-        let read = C::read(alloc, encoded, count)?;
-        match read {
-            Some(strings) => {
-                let data = ArrayBytes::Variable(strings);
-                if !data.validate(data_type, count) {
-                    return Err(CodecError::DoesNotFit(Misfit::Bytes));
-                }
-                Ok(data)
-            }
-            None => Err(CodecError::DoesNotFit(Misfit::Bytes)),
+        let Some(strings) = C::read(alloc, encoded, count)? else {
+            return Err(CodecError::DoesNotFit(Misfit::Bytes));
+        };
+        let data = ArrayBytes::Variable(strings);
+        if !data.validate(data_type, count) {
+            return Err(CodecError::DoesNotFit(Misfit::Bytes));
         }
+        Ok(data)
     }
 
     ghost lawful = { λ _. C.StringsCodec.lawful };

@@ -54,10 +54,10 @@ impl StringsCodec for VlenCodec {
         encoded: &[u8],
         count: u64,
     ) -> Result<Option<ArrayBytesVariableLength<'static>>, AllocError> {
-        match split_index(encoded, count) {
-            Some((index, bytes)) => cut(alloc, offsets_in(alloc, index)?, bytes),
-            None => Ok(None),
-        }
+        let Some((index, bytes)) = split_index(encoded, count) else {
+            return Ok(None);
+        };
+        cut(alloc, offsets_in(alloc, index)?, bytes)
     }
 }
 
@@ -77,16 +77,12 @@ fn split_index(encoded: &[u8], count: u64) -> Option<(&[u8], &[u8])>
     ensures { option_map (λ parts. (parts.0.now, parts.1.now)) result
         ≡ split_index count encoded.now }
 {
-    match encoded.split_first_chunk::<8>() {
-        Some((head, rest)) => {
-            let len = u64::from_le_bytes(*head);
-            if count >= rest.len() as u64 / 8 || len != 8 * (count + 1) {
-                return None;
-            }
-            Some(rest.split_at(len as usize))
-        }
-        None => None,
+    let (head, rest) = encoded.split_first_chunk::<8>()?;
+    let len = u64::from_le_bytes(*head);
+    if count >= rest.len() as u64 / 8 || len != 8 * (count + 1) {
+        return None;
     }
+    Some(rest.split_at(len as usize))
 }
 
 /// The offsets of an index.

@@ -130,15 +130,13 @@ fn uncounted(
 ) -> Result<Option<ArrayBytesVariableLength<'static>>, AllocError>
     ensures { IfOk result (λ strings. strings ≡ uncounted count encoded.now) }
 {
-    match encoded.split_first_chunk::<4>() {
-        Some((head, strings)) => {
-            if u32::from_le_bytes(*head) as u64 != count {
-                return Ok(None);
-            }
-            strings_of(alloc, strings, count)
-        }
-        None => Ok(None),
+    let Some((head, strings)) = encoded.split_first_chunk::<4>() else {
+        return Ok(None);
+    };
+    if u32::from_le_bytes(*head) as u64 != count {
+        return Ok(None);
     }
+    strings_of(alloc, strings, count)
 }
 
 /// The `count` byte strings of the bytes, if nothing follows them.
@@ -153,13 +151,11 @@ fn strings_of(
     let mut builder = VariableLengthBuilder::with_capacity(alloc, room, bytes.len() - 4 * room)?;
     let mut rest = bytes;
     for index in 0..count {
-        match first_string(rest) {
-            Some((string, left)) => {
-                builder.push(string)?;
-                rest = left;
-            }
-            None => return Ok(None),
-        }
+        let Some((string, left)) = first_string(rest) else {
+            return Ok(None);
+        };
+        builder.push(string)?;
+        rest = left;
     }
     if !rest.is_empty() {
         return Ok(None);
@@ -171,14 +167,10 @@ fn strings_of(
 fn first_string(bytes: &[u8]) -> Option<(&[u8], &[u8])>
     ensures { option_map (λ parts. (parts.0.now, parts.1.now)) result ≡ first_string bytes.now }
 {
-    match bytes.split_first_chunk::<4>() {
-        Some((head, rest)) => {
-            let len = u32::from_le_bytes(*head) as usize;
-            if len > rest.len() {
-                return None;
-            }
-            Some(rest.split_at(len))
-        }
-        None => None,
+    let (head, rest) = bytes.split_first_chunk::<4>()?;
+    let len = u32::from_le_bytes(*head) as usize;
+    if len > rest.len() {
+        return None;
     }
+    Some(rest.split_at(len))
 }

@@ -42,10 +42,7 @@ pub fn are_little_bytes(member: Option<&Value>) -> Result<bool, AllocError>
     ensures { IfOk result (λ are. are
         ≡ are_little_bytes (option_map (λ value. view value.now) member.entry)) }
 {
-    match sole_codec(member)? {
-        Some(codec) => Ok(is_little_bytes(&codec)),
-        None => Ok(false),
-    }
+    Ok(sole_codec(member)?.is_some_and(|codec| is_little_bytes(&codec)))
 }
 
 fn is_little_bytes(codec: &MetadataV3) -> bool

@@ -97,13 +97,11 @@ fn optional_of(
     ensures { IfOk result (λ made. option_map cells_codec_data made
         ≡ optional_said (option_map mask_codec_data mask) (option_map cells_codec_data inner)) }
 {
-    match (mask, inner) {
-        (Some(mask), Some(inner)) => {
-            let codec = OptionalCodec::new(alloc, mask, inner)?;
-            Ok(Some(CellsCodec::Optional(codec)))
-        }
-        _ => Ok(None),
-    }
+    let (Some(mask), Some(inner)) = (mask, inner) else {
+        return Ok(None);
+    };
+    let codec = OptionalCodec::new(alloc, mask, inner)?;
+    Ok(Some(CellsCodec::Optional(codec)))
 }
 
 /// Returns the metadata of the codecs for the mask and for the data.
@@ -134,10 +132,7 @@ fn mask_from(metadata: &MetadataV3) -> Result<Option<MaskCodec>, AllocError>
     ensures { IfOk result (λ mask. option_map mask_codec_data mask
         ≡ mask_codec_said (extension_view metadata.now)) }
 {
-    match PlainCodec::from_metadata(metadata)? {
-        Some(codec) => Ok(as_mask(codec)),
-        None => Ok(None),
-    }
+    Ok(PlainCodec::from_metadata(metadata)?.and_then(as_mask))
 }
 
 fn as_mask(codec: PlainCodec) -> Option<MaskCodec>
@@ -155,10 +150,7 @@ fn plain_from(metadata: &MetadataV3) -> Result<Option<CellsCodec>, AllocError>
     ensures { IfOk result (λ codec. option_map cells_codec_data codec
         ≡ plain_said (extension_view metadata.now)) }
 {
-    match PlainCodec::from_metadata(metadata)? {
-        Some(codec) => Ok(Some(CellsCodec::Plain(codec))),
-        None => Ok(None),
-    }
+    Ok(PlainCodec::from_metadata(metadata)?.map(CellsCodec::Plain))
 }
 
 /// Returns the metadata of a codec without configuration.

@@ -1,7 +1,6 @@
 //! The codec `zarrs.optional`.
 ghost use Rattle.std.specs.Prelude.{◌≡◌, ◌*◌, ◌<◌, ◌^◌, All, IfOk, IfErr, IsSome, Some, List, []};
 ghost use Rattle.std.specs.Prelude.{length, map, option_map, count_by};
-ghost use Rattle.std.specs.Cow.{cow_slice_items};
 ghost use Rattle.zarrs_data_type.specs.ArrayData.{data_of};
 ghost use Rattle.zarrs_data_type.specs.Cells.{cells};
 ghost use Rattle.zarrs_data_type.specs.Kind.{kind, cell_size};
@@ -126,10 +125,8 @@ impl OptionalCodec {
         ensures mask { IfOk result (λ codec. mask_codec_of codec ≡ mask) }
         ensures inner { IfOk result (λ codec. data_codec_of codec ≡ inner) }
     {
-        Ok(OptionalCodec {
-            mask,
-            data: Box::new(alloc, inner)?,
-        })
+        let data = Box::new(alloc, inner)?;
+        Ok(OptionalCodec { mask, data })
     }
 
     /// The codec of the mask.
@@ -322,14 +319,7 @@ fn flags_of(alloc: Global, bools: ArrayBytes<'_>) -> Result<Vec<u8>, AllocError>
     let ArrayBytes::Fixed(flags) = bools else {
         unreachable!();
     };
-    let flags = owned(alloc, flags)?;
-    Ok(flags)
-}
-
-fn owned(alloc: Global, bytes: CowSlice<'_, u8>) -> Result<Vec<u8>, AllocError>
-    ensures { IfOk result (λ owned. owned.items ≡ cow_slice_items bytes.entry) }
-{
-    Ok(bytes.into_owned(alloc)?)
+    Ok(flags.into_owned(alloc)?)
 }
 
 /// How many flags are counted at a time: few enough that one byte holds their number.

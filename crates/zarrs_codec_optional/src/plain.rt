@@ -1,5 +1,5 @@
 //! The codecs of plain cells: one list of their variants, names and configurations.
-ghost use Rattle.std.specs.Prelude.{◌≡◌, if◌then◌else◌, Some, None, option_map, IfOk, IfErr, IsSome};
+ghost use Rattle.std.specs.Prelude.{◌≡◌, Some, option_map, IfOk, IfErr, IsSome};
 ghost use Rattle.zarrs_data_type.specs.ArrayData.{data_of};
 ghost use Rattle.zarrs_data_type.specs.Cells.{cells};
 ghost use Rattle.zarrs_data_type.specs.Kind.{kind};
@@ -9,9 +9,7 @@ ghost use Rattle.zarrs_codec_leaf.specs.Refusals.{RefusesEncoding, RefusesDecodi
 ghost use Rattle.zarrs_codec_optional.specs.BytesMetadata.{endian_from};
 ghost use Rattle.zarrs_codec_optional.specs.PlainCodecs.{bytes, default_plain_codec, extension_of_plain_codec};
 ghost use Rattle.zarrs_codec_optional.specs.PlainCodecs.{meaning_of_plain_codec, plain-lawful, plain_codec_data};
-ghost use Rattle.zarrs_codec_optional.specs.PlainCodecs.{packbits, plain_codec_named, vlen};
-ghost use Rattle.zarrs_codec_optional.specs.PackBitsMetadata.{packbits_said};
-ghost use Rattle.zarrs_codec_optional.specs.VlenMetadata.{vlen_said};
+ghost use Rattle.zarrs_codec_optional.specs.PlainCodecs.{plain_codec_named};
 
 use crate::bytes_metadata::{bytes_metadata, endian_from};
 use crate::metadata::named;
@@ -101,10 +99,14 @@ impl PlainCodec {
         let is_bare = metadata.has_only(&[]);
         match metadata.name() {
             "bytes" => Ok(bytes_from(metadata)),
-            "packbits" => Ok(packbits_from(metadata)),
+            "packbits" => {
+                Ok(says_packbits(metadata).then_some(PlainCodec::PackBits(PackBitsCodec)))
+            }
             "vlen-utf8" => Ok(is_bare.then_some(PlainCodec::VlenUtf8(VlenUtf8Codec))),
             "vlen-bytes" => Ok(is_bare.then_some(PlainCodec::VlenBytes(VlenBytesCodec))),
-            "zarrs.vlen" | "vlen" => vlen_from(metadata),
+            "zarrs.vlen" | "vlen" => {
+                Ok(says_vlen(metadata)?.then_some(PlainCodec::Vlen(VlenCodec)))
+            }
             _ => Ok(None),
         }
     }
@@ -143,20 +145,5 @@ fn bytes_from(metadata: &MetadataV3) -> Option<PlainCodec>
     ensures { option_map plain_codec_data result
         ≡ option_map bytes (endian_from (settings (extension_view metadata.now))) }
 {
-    let endian = endian_from(metadata)?;
-    Some(PlainCodec::Bytes(BytesCodec::new(endian)))
-}
-
-fn packbits_from(metadata: &MetadataV3) -> Option<PlainCodec>
-    ensures { option_map plain_codec_data result
-        ≡ (if packbits_said (settings (extension_view metadata.now)) then Some packbits else None) }
-{
-    says_packbits(metadata).then_some(PlainCodec::PackBits(PackBitsCodec))
-}
-
-fn vlen_from(metadata: &MetadataV3) -> Result<Option<PlainCodec>, AllocError>
-    ensures { IfOk result (λ codec. option_map plain_codec_data codec
-        ≡ (if vlen_said (settings (extension_view metadata.now)) then Some vlen else None)) }
-{
-    Ok(says_vlen(metadata)?.then_some(PlainCodec::Vlen(VlenCodec)))
+    Some(PlainCodec::Bytes(BytesCodec::new(endian_from(metadata)?)))
 }

@@ -1,9 +1,9 @@
 //! The metadata of the codec `sharding_indexed`, both ways.
 ghost use Rattle.std.specs.Prelude.{◌≡◌, map, option_map, option_and_then, IfOk};
 ghost use Rattle.std.specs.Int.NonZero.{non_zero_u64_get};
-ghost use Rattle.serde_json.specs.View.{view, items_view};
+ghost use Rattle.serde_json.specs.View.{view};
 ghost use Rattle.zarrs_metadata_parts.specs.Extension.{extension_data, extension_of, extension_view, settings};
-ghost use Rattle.zarrs_metadata_parts.specs.Lists.{all_of, list_data, list_of, number_data};
+ghost use Rattle.zarrs_metadata_parts.specs.Lists.{list_data, list_of, number_data};
 ghost use Rattle.zarrs_codec_optional.specs.ShardingMetadata.{location_said, sharding_data};
 ghost use Rattle.zarrs_codec_optional.specs.ShardingMetadata.{sharding_extension, size_said, sizes_of};
 ghost use Rattle.zarrs_codec_optional.specs.ShardingViews.{sharding_view};
@@ -82,16 +82,9 @@ fn sizes_from(alloc: Global, member: Option<&Value>) -> Result<Option<Vec<NonZer
     ensures { IfOk result (λ found. option_map (λ sizes. sizes_of sizes.items) found
         ≡ option_and_then (list_of size_said) (option_map (λ value. view value.now) member.entry)) }
 {
-    match member.and_then(|value| value.as_array()) {
-        Some(items) => all_sizes(alloc, items),
-        None => Ok(None),
-    }
-}
-
-fn all_sizes(alloc: Global, items: &Vec<Value>) -> Result<Option<Vec<NonZeroU64>>, AllocError>
-    ensures { IfOk result (λ found. option_map (λ sizes. sizes_of sizes.items) found
-        ≡ all_of size_said (items_view items.now.items)) }
-{
+    let Some(items) = member.and_then(|value| value.as_array()) else {
+        return Ok(None);
+    };
     let mut sizes = Vec::with_capacity(alloc, items.len())?;
     for item in items {
         match size_from(item) {
@@ -117,16 +110,9 @@ fn extensions_from(
     ensures { IfOk result (λ found. option_map (λ list. map extension_view list.items) found
         ≡ option_and_then (list_of extension_of) (option_map (λ value. view value.now) member.entry)) }
 {
-    match member.and_then(|value| value.as_array()) {
-        Some(items) => all_extensions(alloc, items),
-        None => Ok(None),
-    }
-}
-
-fn all_extensions(alloc: Global, items: &Vec<Value>) -> Result<Option<Vec<MetadataV3>>, AllocError>
-    ensures { IfOk result (λ found. option_map (λ list. map extension_view list.items) found
-        ≡ all_of extension_of (items_view items.now.items)) }
-{
+    let Some(items) = member.and_then(|value| value.as_array()) else {
+        return Ok(None);
+    };
     let mut extensions = Vec::with_capacity(alloc, items.len())?;
     for item in items {
         match extension_from(item)? {

@@ -14,10 +14,7 @@ pub fn sole_codec(list: Option<&Value>) -> Result<Option<MetadataV3>, AllocError
     ensures { IfOk result (λ found. option_map extension_view found
         ≡ sole_codec (option_map (λ value. view value.now) list.entry)) }
 {
-    let Some(value) = list else {
-        return Ok(None);
-    };
-    let Some(items) = value.as_array() else {
+    let Some(items) = list.and_then(|value| value.as_array()) else {
         return Ok(None);
     };
     match sole_item(items) {
@@ -43,10 +40,7 @@ pub fn extension_from(value: &Value) -> Result<Option<MetadataV3>, AllocError>
         ≡ extension_of (view value.now)) }
 {
     let copy = value.clone()?;
-    match MetadataV3::from_value(copy) {
-        Ok(metadata) => Ok(Some(metadata)),
-        Err(_) => Ok(None),
-    }
+    Ok(MetadataV3::from_value(copy).ok())
 }
 
 /// Returns the list of this one extension point.

@@ -17,8 +17,7 @@ pub fn is_text_or_absent(member: Option<&Value>, text: &str) -> bool
 pub fn is_text(member: Option<&Value>, text: &str) -> bool
     ensures { result ≡ is_text text.now (option_map (λ value. view value.now) member.entry) }
 {
-    match member.and_then(|value| value.as_str()) {
-        Some(found) => found == text,
-        None => false,
-    }
+    member
+        .and_then(|value| value.as_str())
+        .is_some_and(|found| found == text)
 }

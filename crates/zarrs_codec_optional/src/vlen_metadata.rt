@@ -24,24 +24,19 @@ use zarrs_metadata_parts::MetadataV3;
 pub fn says_vlen(metadata: &MetadataV3) -> Result<bool, AllocError>
     ensures { IfOk result (λ said. said ≡ vlen_said (settings (extension_view metadata.now))) }
 {
-    if !metadata.has_only(&[
+    let members = [
         "index_data_type",
         "index_location",
         "index_codecs",
         "data_codecs",
-    ]) {
-        return Ok(false);
-    }
-    if !is_text(metadata.member("index_data_type"), "uint64") {
-        return Ok(false);
-    }
-    if !is_text_or_absent(metadata.member("index_location"), "start") {
-        return Ok(false);
-    }
-    if !are_little_bytes(metadata.member("index_codecs"))? {
-        return Ok(false);
-    }
-    are_plain_bytes(metadata.member("data_codecs"))
+    ];
+    Ok(
+        metadata.has_only(&members)
+            && is_text(metadata.member("index_data_type"), "uint64")
+            && is_text_or_absent(metadata.member("index_location"), "start")
+            && are_little_bytes(metadata.member("index_codecs"))?
+            && are_plain_bytes(metadata.member("data_codecs"))?,
+    )
 }
 
 /// Returns whether the member is a list of the codec `bytes` alone, without configuration.
@@ -49,10 +44,7 @@ fn are_plain_bytes(member: Option<&Value>) -> Result<bool, AllocError>
     ensures { IfOk result (λ are. are ≡ passes is_plain_bytes
         (sole_codec (option_map (λ value. view value.now) member.entry))) }
 {
-    match sole_codec(member)? {
-        Some(codec) => Ok(is_plain_bytes(&codec)),
-        None => Ok(false),
-    }
+    Ok(sole_codec(member)?.is_some_and(|codec| is_plain_bytes(&codec)))
 }
 
 /// Returns the metadata of the codec, without the location of the index.

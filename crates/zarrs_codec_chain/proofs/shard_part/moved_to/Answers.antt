@@ -6,22 +6,17 @@ use Rattle.zarrs_codec_chain.proofs.shard_part.moved_to.Goals as goal
 
 pub seen_from_corner-requires-clause-dimensions : goal.seen_from_corner-requires-clause-dimensions
 seen_from_corner-requires-clause-dimensions c =
-    let region = box_of c.args.region.now in
-    let part = box_of c.args.part.now in
-    let shared = box_of c.args.shared.now in
     let lies = c.requires.lies in
     ap length c.start.ensures ∙ sym lies.same_length
 
 pub seen_from_corner-requires-clause-above : goal.seen_from_corner-requires-clause-above
 seen_from_corner-requires-clause-above c =
-    let region = box_of c.args.region.now in
-    let part = box_of c.args.part.now in
     let shared = box_of c.args.shared.now in
     let lies = c.requires.lies in
     subst (λ (x : List ℕ). (j : ℕ) → j < length shared.start → slice_index x j ≤ slice_index shared.start j) (sym c.start.ensures) (λ j below. lies.starts j (omega (arith, lies.same_length)))
 
-pub shifted_to-requires-clause-dimensions : goal.shifted_to-requires-clause-dimensions
-shifted_to-requires-clause-dimensions c =
+pub shifted-requires-clause-dimensions : goal.shifted-requires-clause-dimensions
+shifted-requires-clause-dimensions c =
     let region = box_of c.args.region.now in
     let part = box_of c.args.part.now in
     let shared = box_of c.args.shared.now in
@@ -29,8 +24,8 @@ shifted_to-requires-clause-dimensions c =
     let seen_is : box_of c.in_ok-seen.seen ≡ seen_from shared part.start = c.in_ok-seen.ensures ∙ ap (seen_from shared) c.start.ensures in
     ap length c.start-2.ensures ∙ seen_start_len region part shared c.args.region.now.same_length c.args.part.now.same_length c.args.shared.now.same_length c.requires.shape lies ∙ ap (λ (b : Box). length b.start) (sym seen_is)
 
-pub shifted_to-requires-clause-ends : goal.shifted_to-requires-clause-ends
-shifted_to-requires-clause-ends c =
+pub shifted-requires-clause-ends : goal.shifted-requires-clause-ends
+shifted-requires-clause-ends c =
     let region = box_of c.args.region.now in
     let part = box_of c.args.part.now in
     let shared = box_of c.args.shared.now in

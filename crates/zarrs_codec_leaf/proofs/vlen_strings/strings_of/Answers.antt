@@ -11,14 +11,14 @@ loop-index-preserved c =
     let next : n - i ≡ suc (n - (i + 1)) = omega (arith, c.loop-index-test.true) in
     let found = sym c.first_string.ensures ∙ ap (option_map (λ parts. (parts.0.now, parts.1.now))) c.in-Some.is in
     read_more n c.args.bytes.now c.loop-index.builder c.loop-index.rest.now (n - i) (n - (i + 1)) c.in-Some.string.now c.in-Some.left.now c.loop-index.invariant next found
-    ∙ ap (λ made. option_map (λ ss. made ++ ss) (strings_of (n - (i + 1)) c.in-Some.left.now)) (sym c.in_ok-push-in-Some.ensures.pushed)
+    ∙ ap (λ made. option_map (λ ss. made ++ ss) (strings_of (n - (i + 1)) c.in-Some.left.now)) (sym c.in_ok-push.ensures.pushed)
 
-pub returns-in-None : goal.returns-in-None
-returns-in-None c =
+pub returns-in_default : goal.returns-in_default
+returns-in_default c =
     let n = c.args.count in
     let i = c.loop-index.index in
     let next : n - i ≡ suc (n - (i + 1)) = omega (arith, c.loop-index-test.true) in
-    let found = sym c.first_string.ensures ∙ ap (option_map (λ parts. (parts.0.now, parts.1.now))) c.in-None.is in
+    let found = sym c.first_string.ensures ∙ ap (option_map (λ parts. (parts.0.now, parts.1.now))) c.in_default.is in
     read_none n c.args.bytes.now c.loop-index.builder c.loop-index.rest.now (n - i) (n - (i + 1)) c.loop-index.invariant next found
 
 pub returns-then-not-is_empty : goal.returns-then-not-is_empty

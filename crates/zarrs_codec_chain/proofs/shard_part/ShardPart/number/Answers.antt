@@ -19,7 +19,6 @@ pub returns-clause-number : goal.returns-clause-number
 returns-clause-number g c =
     let self = c.args.self.now in
     let r = read_of self in
-    let is = opened self in
     let i = c.args.indices.now in
     let in_grid = subst (λ (x : List ℕ). InShape x i) c.grid.ensures c.in-Some.ensures.0 in
     let at_n : place (quotients r.shape r.sub) i ≡ c.in-Some.number = sym (c.in-Some.ensures.1 ∙ ap (λ (x : List ℕ). place x i) c.grid.ensures) in

@@ -23,22 +23,18 @@ pub unreachable-requires : goal.unreachable-requires
 unreachable-requires g c =
     let self = c.args.self.now in
     let r = read_of self in
-    let is = opened self in
     let no : None ≡ Some (slice_index_or (parts_of r) c.args.number None) = named_here self c.args.number c.as_slice-index.result.now None c.as_slice-index.ensures c.requires (c.in_default.ensures.part (bytes_of self.stored)) in
     cc
 
 pub returns-clause-part : goal.returns-clause-part
 returns-clause-part g c =
     let self = c.args.self.now in
-    let r = read_of self in
-    let is = opened self in
     sym (some_is (named_here self c.args.number c.as_slice-index.result.now (Some (range_part (bytes_of self.stored) c.in-Some.range)) c.as_slice-index.ensures c.requires (c.in-Some.ensures.part (bytes_of self.stored))))
 
 pub returns-clause-within : goal.returns-clause-within
 returns-clause-within g c =
     let self = c.args.self.now in
     let r = read_of self in
-    let is = opened self in
     let len = length (bytes_of self.stored) in
     range_wider self.end len c.in-Some.range (omega (arith, self.end_is, data_within self.at_start (count_of r) len)) c.in-Some.ensures.within
 

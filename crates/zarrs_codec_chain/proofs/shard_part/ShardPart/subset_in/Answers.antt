@@ -8,8 +8,8 @@ use Rattle.zarrs_codec_chain.specs.ShardReads.{count_of}
 use Rattle.zarrs_codec_chain.proofs.IntoSteps.{region_ends, region_start}
 use Rattle.zarrs_codec_chain.proofs.shard_part.ShardPart.subset_in.Goals as goal
 
-pub shifted_to-requires-clause-dimensions : goal.shifted_to-requires-clause-dimensions
-shifted_to-requires-clause-dimensions g c =
+pub shifted-requires-clause-dimensions : goal.shifted-requires-clause-dimensions
+shifted-requires-clause-dimensions g c =
     let self = c.args.self.now in
     let r = read_of self in
     let is = opened self in
@@ -23,8 +23,8 @@ shifted_to-requires-clause-dimensions g c =
     let long = c.args.region.now.same_length in
     ap length c.start.ensures ∙ region_start region r.sub cut long n lt ∙ ap (λ (b : Box). length b.start) (sym subset_is)
 
-pub shifted_to-requires-clause-ends : goal.shifted_to-requires-clause-ends
-shifted_to-requires-clause-ends g c =
+pub shifted-requires-clause-ends : goal.shifted-requires-clause-ends
+shifted-requires-clause-ends g c =
     let self = c.args.self.now in
     let r = read_of self in
     let is = opened self in

@@ -24,7 +24,7 @@ returns-in-Some-clause-encoded g c =
     let k = kind c.args.data_type.now in
     let taken = sym c.takes_type.ensures ∙ c.if-not-takes_type.false in
     encoding_of-strings g.C.StringsCodec.taken g.C.StringsCodec.written g.C.StringsCodec.read k taken (g.C.StringsCodec.variable k) (data_of c.args.bytes.now) c.in-Variable.strings (ap data_of c.in-Variable.is) c.requires
-    ∙ sym (ap (option_map (λ encoded. encoded.items)) (sym c.in-Some.is) ∙ c.in_ok-made-in-Variable.ensures)
+    ∙ sym (ap (option_map (λ encoded. encoded.items)) (sym c.in-Some.is) ∙ c.in_ok-encoded-in-Variable.ensures)
 
 pub returns-in-None-clause-refused : goal.returns-in-None-clause-refused
 returns-in-None-clause-refused g c =
@@ -32,5 +32,5 @@ returns-in-None-clause-refused g c =
     let taken = sym c.takes_type.ensures ∙ c.if-not-takes_type.false in (
       taken,
       encoding_of-strings g.C.StringsCodec.taken g.C.StringsCodec.written g.C.StringsCodec.read k taken (g.C.StringsCodec.variable k) (data_of c.args.bytes.now) c.in-Variable.strings (ap data_of c.in-Variable.is) c.requires
-          ∙ sym (ap (option_map (λ encoded. encoded.items)) (sym c.in-None.is) ∙ c.in_ok-made-in-Variable.ensures),
+          ∙ sym (ap (option_map (λ encoded. encoded.items)) (sym c.in-None.is) ∙ c.in_ok-encoded-in-Variable.ensures),
     )

@@ -2,7 +2,7 @@ use Rattle.std.proofs.Common.{◌≡◌, ◌++◌, drop, option_map}
 use Rattle.serde_json.specs.View.{items_view}
 use Rattle.zarrs_metadata_parts.specs.Lists.{all_of}
 use Rattle.zarrs_codec_optional.specs.ShardingMetadata.{sizes_of, size_said}
-use Rattle.zarrs_codec_optional.proofs.sharding_configuration.all_sizes.Given as goal
+use Rattle.zarrs_codec_optional.proofs.sharding_configuration.sizes_from.Given as goal
 
 -- what is left says the rest
 abbrev pub invariant-loop-item : goal.invariant-loop-item

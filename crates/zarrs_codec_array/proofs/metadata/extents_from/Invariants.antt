@@ -3,7 +3,7 @@ use Rattle.serde_json.specs.View.{items_view}
 use Rattle.zarrs_metadata_parts.specs.Lists.{all_of}
 use Rattle.zarrs_codec_array.specs.Extents.{extents_view}
 use Rattle.zarrs_codec_array.specs.Metadata.{extent_said}
-use Rattle.zarrs_codec_array.proofs.metadata.all_extents.Given as goal
+use Rattle.zarrs_codec_array.proofs.metadata.extents_from.Given as goal
 
 -- what is left says the rest
 abbrev pub invariant-loop-item : goal.invariant-loop-item

@@ -2,7 +2,7 @@ use Rattle.std.proofs.Common.{◌≡◌, ◌++◌, drop, map, option_map}
 use Rattle.serde_json.specs.View.{items_view}
 use Rattle.zarrs_metadata_parts.specs.Extension.{extension_of, extension_view}
 use Rattle.zarrs_metadata_parts.specs.Lists.{all_of}
-use Rattle.zarrs_codec_optional.proofs.sharding_configuration.all_extensions.Given as goal
+use Rattle.zarrs_codec_optional.proofs.sharding_configuration.extensions_from.Given as goal
 
 -- what is left says the rest
 abbrev pub invariant-loop-item : goal.invariant-loop-item
