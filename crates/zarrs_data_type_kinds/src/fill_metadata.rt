@@ -1,7 +1,6 @@
 //! Fill values as metadata says them, both ways.
 ghost use Rattle.std.specs.Prelude.{◌≡◌, [], ◌∷◌, ◌++◌, true, Some, None, nat_lt, length};
 ghost use Rattle.std.specs.Prelude.{option_map, if◌then◌else◌, IfOk, IfErr, IfSome, IsSome};
-ghost use Rattle.std.specs.Int.{w16, w32, w64, from_le_bytes};
 ghost use Rattle.std.specs.List.{list_all};
 ghost use Rattle.std.specs.Str.{is_utf8};
 ghost use Rattle.serde_json.specs.Data.{string, array, item, no_items};
@@ -117,13 +116,9 @@ fn sized_said(alloc: Global, value: &Value, size: usize) -> Result<Option<Vec<u8
     ensures { IfOk result (λ said. option_map (λ b. b.items) said
         ≡ sized_said size (view value.now)) }
 {
-    let Some(bytes) = bytes_said(alloc, value)? else {
-        return Ok(None);
-    };
-    if bytes.len() == size {
-        Ok(Some(bytes))
-    } else {
-        Ok(None)
+    match bytes_said(alloc, value)? {
+        Some(bytes) if bytes.len() == size => Ok(Some(bytes)),
+        _ => Ok(None),
     }
 }
 
@@ -235,40 +230,25 @@ fn element_value(alloc: Global, data_type: &DataType, bytes: &[u8]) -> Result<Va
     match data_type {
         DataType::Bool => Ok(Value::Bool(bytes[0] == 1)),
         DataType::Int8 => Ok(Value::from(bytes[0].cast_signed())),
-        DataType::Int16 => Ok(Value::from(number_of_2(bytes).cast_signed())),
-        DataType::Int32 => Ok(Value::from(number_of_4(bytes).cast_signed())),
-        DataType::Int64 => Ok(Value::from(number_of_8(bytes).cast_signed())),
+        DataType::Int16 => Ok(Value::from(u16::from_le_bytes(array_of(bytes)).cast_signed())),
+        DataType::Int32 => Ok(Value::from(u32::from_le_bytes(array_of(bytes)).cast_signed())),
+        DataType::Int64 => Ok(Value::from(u64::from_le_bytes(array_of(bytes)).cast_signed())),
         DataType::UInt8 => Ok(Value::from(bytes[0])),
-        DataType::UInt16 => Ok(Value::from(number_of_2(bytes))),
-        DataType::UInt32 => Ok(Value::from(number_of_4(bytes))),
-        DataType::UInt64 => Ok(Value::from(number_of_8(bytes))),
+        DataType::UInt16 => Ok(Value::from(u16::from_le_bytes(array_of(bytes)))),
+        DataType::UInt32 => Ok(Value::from(u32::from_le_bytes(array_of(bytes)))),
+        DataType::UInt64 => Ok(Value::from(u64::from_le_bytes(array_of(bytes)))),
         DataType::String => text_value(alloc, bytes),
         DataType::Raw(_) | DataType::Bytes => list_value(alloc, bytes),
         DataType::Optional(_) => Ok(Value::Null),
     }
 }
 
-fn number_of_2(bytes: &[u8]) -> u16
-    requires { length bytes.now ≡ 2 }
-    ensures { result ≡ from_le_bytes w16 bytes.now }
+/// Returns the bytes as an array of their length.
+fn array_of<const N: usize>(bytes: &[u8]) -> [u8; N]
+    requires { length bytes.now ≡ N }
+    ensures { result ≡ bytes.now }
 {
-    u16::from_le_bytes([bytes[0], bytes[1]])
-}
-
-fn number_of_4(bytes: &[u8]) -> u32
-    requires { length bytes.now ≡ 4 }
-    ensures { result ≡ from_le_bytes w32 bytes.now }
-{
-    u32::from_le_bytes([bytes[0], bytes[1], bytes[2], bytes[3]])
-}
-
-fn number_of_8(bytes: &[u8]) -> u64
-    requires { length bytes.now ≡ 8 }
-    ensures { result ≡ from_le_bytes w64 bytes.now }
-{
-    u64::from_le_bytes([
-        bytes[0], bytes[1], bytes[2], bytes[3], bytes[4], bytes[5], bytes[6], bytes[7],
-    ])
+    *bytes.as_array().unwrap()
 }
 
 fn text_value(alloc: Global, bytes: &[u8]) -> Result<Value, AllocError>

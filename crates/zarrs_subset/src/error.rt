@@ -1,6 +1,7 @@
 //! Why boxes are not made, and sizes not counted.
 
-ghost use Rattle.std.specs.Prelude.{◌≡◌};
+ghost use Rattle.std.specs.Prelude.{◌≡◌, IfErr, OnOk};
+ghost use Rattle.zarrs_subset.specs.Refusals.{IsMismatch};
 
 use std::alloc::AllocError;
 use thiserror::Error;
@@ -36,6 +37,21 @@ impl IncompatibleDimensionalityError {
         ensures { result ≡ self.now.expected }
     {
         self.expected
+    }
+}
+
+/// Refuses a list of another length than is wanted.
+///
+/// # Errors
+/// `IncompatibleDimensionalityError`: the lengths differ.
+pub fn check_length(got: usize, expected: usize) -> Result<(), IncompatibleDimensionalityError>
+    ensures ok { OnOk result (got ≡ expected) }
+    ensures refused { IfErr result (IsMismatch got expected) }
+{
+    if got == expected {
+        Ok(())
+    } else {
+        Err(IncompatibleDimensionalityError::new(got, expected))
     }
 }
 

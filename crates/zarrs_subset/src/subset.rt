@@ -5,10 +5,10 @@ ghost use Rattle.std.specs.Prelude.{map, slice_index, max, min, Bool, IfOk, IfEr
 ghost use Rattle.std.specs.Prelude.{IsTrue, SomeIndex, EachIndex, MatchOption, replicate};
 ghost use Rattle.std.specs.Prelude.{slice_get};
 ghost use Rattle.zarrs_subset.specs.Boxes.{EndsFit, ends, zip_with, position_count};
-ghost use Rattle.zarrs_subset.specs.Refusals.{IsMismatch, RefusesStartShape, RefusesStartEnd};
+ghost use Rattle.zarrs_subset.specs.Refusals.{RefusesStartShape, RefusesStartEnd};
 ghost use Rattle.zarrs_subset.specs.Refusals.{RefusesLength, RefusesOffset, RefusesShift};
 
-use crate::error::{ArraySubsetError, IncompatibleDimensionalityError, SizeOverflow};
+use crate::error::{ArraySubsetError, SizeOverflow, check_length};
 use crate::lists::{extents, has_zero, shifted};
 use crate::ravel::{element_count, unravelled};
 use crate::traits::ArraySubsetTraits;
@@ -76,9 +76,7 @@ impl ArraySubset {
         ensures is_box { OnOk result (IsBox (box_from start.items shape.items)) }
         ensures refused { IfErr result (RefusesStartShape start.items shape.items) }
     {
-        if start.len() != shape.len() {
-            return Err(IncompatibleDimensionalityError::new(start.len(), shape.len()))?;
-        }
+        check_length(start.len(), shape.len())?;
         for k in 0..start.len() {
             if shape[k] > u64::MAX - start[k] {
                 return Err(ArraySubsetError::EndOverflow);
@@ -102,9 +100,7 @@ impl ArraySubset {
             (EachIndex start.items (λ k. slice_index start.items k ≤ slice_index end.items k)) }
         ensures refused { IfErr result (RefusesStartEnd start.items end.items) }
     {
-        if start.len() != end.len() {
-            return Err(IncompatibleDimensionalityError::new(start.len(), end.len()))?;
-        }
+        check_length(start.len(), end.len())?;
         for k in 0..start.len() {
             if end[k] < start[k] {
                 return Err(ArraySubsetError::EndBelowStart);
@@ -235,7 +231,7 @@ impl ArraySubset {
         ensures refused { IfErr result
             (RefusesLength (length (B.region other.now).start) (length (box_of self.now).start)) }
     {
-        self.check_length(other.dimensionality())?;
+        check_length(other.dimensionality(), self.start.len())?;
         Ok(self.shared_with(alloc, other)?)
     }
 
@@ -284,7 +280,7 @@ impl ArraySubset {
             (λ k. slice_index offset.now k ≤ slice_index (box_of self.now).start k)) }
         ensures refused { IfErr result (RefusesOffset (box_of self.now).start offset.now) }
     {
-        self.check_length(offset.len())?;
+        check_length(offset.len(), self.start.len())?;
         for k in 0..offset.len() {
             if self.start[k] < offset[k] {
                 return Err(ArraySubsetError::StartBelowOffset);
@@ -322,7 +318,7 @@ impl ArraySubset {
         ensures refused { IfErr result (RefusesShift (box_of self.now).start (box_of self.now).shape
             offset.now) }
     {
-        self.check_length(offset.len())?;
+        check_length(offset.len(), self.start.len())?;
         for k in 0..offset.len() {
             if offset[k] > u64::MAX - (self.start[k] + self.shape[k]) {
                 return Err(ArraySubsetError::EndOverflow);
@@ -359,7 +355,7 @@ impl ArraySubset {
         ensures refused { IfErr result
             (RefusesLength (length end.now) (length (box_of self.now).start)) }
     {
-        self.check_length(end.len())?;
+        check_length(end.len(), self.start.len())?;
         let dimensions = self.start.len();
         let mut start = Vec::with_capacity(alloc, dimensions)?;
         let mut shape = Vec::with_capacity(alloc, dimensions)?;
@@ -370,18 +366,6 @@ impl ArraySubset {
             shape.push_reserved(last.saturating_sub(first));
         }
         Ok(ArraySubset { start, shape })
-    }
-
-    // A list of this length has an entry for each dimension.
-    fn check_length(&self, got: usize) -> Result<(), IncompatibleDimensionalityError>
-        ensures ok { OnOk result (got ≡ length (box_of self.now).start) }
-        ensures refused { IfErr result (IsMismatch got (length (box_of self.now).start)) }
-    {
-        if got == self.start.len() {
-            Ok(())
-        } else {
-            Err(IncompatibleDimensionalityError::new(got, self.start.len()))
-        }
     }
 }
 

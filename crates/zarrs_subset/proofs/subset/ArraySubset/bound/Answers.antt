@@ -31,7 +31,7 @@ pub invariant_of-result : goal.invariant_of-result
 invariant_of-result c =
     let a = c.args.self.now in
     let end = c.args.end.now in
-    let same : length a.start.items ≡ length end = sym c.in_ok-check_length.ensures.ok in
+    let same : length a.start.items ≡ length end = search rules in
     let all : c.loop-k.k ≡ length a.start.items = omega (arith, c.len-dimensions.ensures) in
     let start : c.loop-k.start.items ≡ (bound_to (box_of a) end).start = cut_starts _ _ _ _ _ c.loop-k.k same all c.loop-k.invariant.cut in
     let shape : c.loop-k.shape.items ≡ (bound_to (box_of a) end).shape = cut_extents _ _ _ _ _ c.loop-k.k a.same_length same all c.loop-k.invariant.cut in
@@ -44,7 +44,7 @@ pub returns-clause-value : goal.returns-clause-value
 returns-clause-value c =
     let a = c.args.self.now in
     let end = c.args.end.now in
-    let same : length a.start.items ≡ length end = sym c.in_ok-check_length.ensures.ok in
+    let same : length a.start.items ≡ length end = search rules in
     let all : c.loop-k.k ≡ length a.start.items = omega (arith, c.len-dimensions.ensures) in
     let start : c.loop-k.start.items ≡ (bound_to (box_of a) end).start = cut_starts _ _ _ _ _ c.loop-k.k same all c.loop-k.invariant.cut in
     let shape : c.loop-k.shape.items ≡ (bound_to (box_of a) end).shape = cut_extents _ _ _ _ _ c.loop-k.k a.same_length same all c.loop-k.invariant.cut in
