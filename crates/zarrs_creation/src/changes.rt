@@ -15,19 +15,18 @@ ghost use Rattle.zarrs_creation.specs.Meanings.{shape_said};
 
 use crate::parts::{check_names, grid_from};
 use std::alloc::{AllocError, Global};
-use std::num::NonZeroU64;
 use zarrs_chunk_grid::{ChunkGrid, ChunkShape};
-use zarrs_metadata::{ArrayMetadata, DimensionName, MetadataV3, PluginCreateError, numbers_value};
-use zarrs_options::{ArrayBuilderChunkGridMetadata, ArrayCreateError, chunk_shape_to_array_shape};
+use zarrs_metadata::{ArrayMetadata, DimensionName, MetadataV3, PluginCreateError};
+use zarrs_metadata_v2::sizes_value;
+use zarrs_options::{ArrayBuilderChunkGridMetadata, ArrayCreateError};
 
 /// Makes the refusal of names of dimensions in V2 metadata.
-fn no_names_in_v2(alloc: Global) -> ArrayCreateError
-    ensures { RefusesCreation {A = Unit {0}} (Err unsupported_v2) (create_refusal_of result) }
+fn no_names_in_v2(alloc: Global) -> Result<ArrayCreateError, AllocError>
+    ensures { IfOk result
+        (λ e. RefusesCreation {A = Unit {0}} (Err unsupported_v2) (create_refusal_of e)) }
 {
-    match String::from_str(alloc, "names of dimensions") {
-        Ok(text) => ArrayCreateError::UnsupportedZarrV2Array(text),
-        Err(_) => ArrayCreateError::OutOfMemory,
-    }
+    let text = String::from_str(alloc, "names of dimensions")?;
+    Ok(ArrayCreateError::UnsupportedZarrV2Array(text))
 }
 
 /// Gives an array with this metadata this shape, of as many extents. This takes no memory, and the grid is not looked at.
@@ -70,22 +69,18 @@ pub fn name_dimensions(
             if names.is_none() {
                 return Ok(());
             }
-            Err(no_names_in_v2(alloc))
+            Err(no_names_in_v2(alloc)?)
         }
     }
 }
 
 /// Returns the metadata of the `regular` grid of chunks of this shape.
-fn regular_metadata(alloc: Global, chunk_shape: &[NonZeroU64]) -> Result<MetadataV3, AllocError>
-    ensures { IfOk result (λ m. extension_view m ≡ regular_extension (sizes_of chunk_shape.now)) }
+fn regular_metadata(alloc: Global, chunk_shape: &ChunkShape) -> Result<MetadataV3, AllocError>
+    ensures { IfOk result
+        (λ m. extension_view m ≡ regular_extension (sizes_of chunk_shape.now.items)) }
 {
-    let chunk_shape = chunk_shape_to_array_shape(alloc, chunk_shape)?;
-    let chunk_shape = numbers_value(alloc, &chunk_shape)?;
-    MetadataV3::new(String::from_str(alloc, "regular")?).with_member(
-        alloc,
-        "chunk_shape",
-        chunk_shape,
-    )
+    let chunk_shape = sizes_value(alloc, chunk_shape)?;
+    MetadataV3::with_one_member(alloc, "regular", "chunk_shape", chunk_shape)
 }
 
 /// Returns the grid of an array with this metadata over another shape.
@@ -153,13 +148,12 @@ fn check_dimensions(metadata: &ArrayMetadata, shape: &[u64]) -> Result<(), Array
 }
 
 /// Makes the refusal of a grid that V2 metadata cannot say.
-fn no_grid_in_v2(alloc: Global) -> ArrayCreateError
-    ensures { RefusesCreation {A = Unit {0}} (Err chunk_grid) (create_refusal_of result) }
+fn no_grid_in_v2(alloc: Global) -> Result<ArrayCreateError, AllocError>
+    ensures { IfOk result
+        (λ e. RefusesCreation {A = Unit {0}} (Err chunk_grid) (create_refusal_of e)) }
 {
-    match PluginCreateError::other(alloc, "a V2 array has a `regular` grid") {
-        PluginCreateError::OutOfMemory => ArrayCreateError::OutOfMemory,
-        error => ArrayCreateError::ChunkGridCreateError(error),
-    }
+    let text = String::from_str(alloc, "a V2 array has a `regular` grid")?;
+    Ok(ArrayCreateError::ChunkGridCreateError(PluginCreateError::Other(text)))
 }
 
 /// Returns the shape of each chunk of a `regular` grid, as V2 metadata says it.
@@ -171,7 +165,7 @@ fn chunks_of(alloc: Global, grid: &ChunkGrid) -> Result<ChunkShape, ArrayCreateE
 {
     match grid {
         ChunkGrid::Regular(grid) => Ok(Vec::from_slice(alloc, grid.sizes())?),
-        _ => Err(no_grid_in_v2(alloc)),
+        _ => Err(no_grid_in_v2(alloc)?),
     }
 }
 

@@ -27,10 +27,8 @@ fn check_extents(alloc: Global, metadata: &ArrayMetadataV2) -> Result<(), ArrayC
         return Ok(());
     }
     let text = "a chunk has another number of dimensions than the array";
-    match PluginCreateError::other(alloc, text) {
-        PluginCreateError::OutOfMemory => Err(ArrayCreateError::OutOfMemory),
-        error => Err(ArrayCreateError::ChunkGridCreateError(error)),
-    }
+    let text = String::from_str(alloc, text)?;
+    Err(ArrayCreateError::ChunkGridCreateError(PluginCreateError::Other(text)))
 }
 
 /// Returns why a data type of V2 is not supported, as a text for people.

@@ -2,7 +2,6 @@
 ghost use Rattle.std.specs.Prelude.{◌≡◌, map, length, Ok, None, IsSome, IfOk, IfErr, OnOk, option_map};
 ghost use Rattle.zarrs_metadata_parts.specs.Extension.{extension_view};
 ghost use Rattle.zarrs_metadata_parts.specs.FillValue.{fill_data};
-ghost use Rattle.zarrs_metadata_parts.specs.Refusals.{RefusesMeaning};
 ghost use Rattle.zarrs_metadata_v3.specs.View.{document_view, name_view};
 ghost use Rattle.zarrs_chunk_grid.specs.GridView.{configuration_of, array_extents_of};
 ghost use Rattle.zarrs_chunk_grid.specs.Metadata.{grid_said};
@@ -49,29 +48,12 @@ pub struct ArrayParts {
 fn chain_from(alloc: Global, metadatas: &[MetadataV3]) -> Result<CodecChain, ArrayCreateError>
     ensures { MakesPart codecs (chain_said (map extension_view metadatas.now)) chain_data result }
 {
-    match CodecChain::from_metadata(alloc, metadatas) {
-        Ok(chain) => Ok(chain),
-        Err(error) => Err(codecs_refused(alloc, metadatas, error)),
-    }
-}
-
-/// Makes the refusal of codecs that are no chain.
-fn codecs_refused(
-    alloc: Global,
-    metadatas: &[MetadataV3],
-    error: PluginCreateError,
-) -> ArrayCreateError
-    requires { RefusesMeaning (chain_said (map extension_view metadatas.now)) error }
-    ensures { RefusesCreation (said_or codecs (chain_said (map extension_view metadatas.now)))
-        (create_refusal_of result) }
-{
-    match error {
-        PluginCreateError::OutOfMemory => ArrayCreateError::OutOfMemory,
-        PluginCreateError::Other(text) => match codec_reason(alloc, metadatas, text) {
-            Ok(text) => ArrayCreateError::CodecsCreateError(PluginCreateError::Other(text)),
-            Err(_) => ArrayCreateError::OutOfMemory,
-        },
-    }
+    let text = match CodecChain::from_metadata(alloc, metadatas) {
+        Ok(chain) => return Ok(chain),
+        Err(PluginCreateError::OutOfMemory) => return Err(ArrayCreateError::OutOfMemory),
+        Err(PluginCreateError::Other(text)) => codec_reason(alloc, metadatas, text)?,
+    };
+    Err(ArrayCreateError::CodecsCreateError(PluginCreateError::Other(text)))
 }
 
 /// Returns why codecs are refused, as a text for people: that one of them, or of those in a configuration, compresses
@@ -82,13 +64,9 @@ fn codec_reason(
     said: String,
 ) -> Result<String, AllocError> {
     for metadata in metadatas {
-        if let Some(reason) = unsupported_codec(metadata.name()) {
+        let nested = metadata.configuration().and_then(codecs_reason);
+        if let Some(reason) = unsupported_codec(metadata.name()).or(nested) {
             return String::from_str(alloc, reason);
-        }
-        if let Some(configuration) = metadata.configuration() {
-            if let Some(reason) = codecs_reason(configuration) {
-                return String::from_str(alloc, reason);
-            }
         }
     }
     Ok(said)
@@ -101,34 +79,20 @@ fn codec_reason(
 pub fn data_type_from(alloc: Global, metadata: &MetadataV3) -> Result<DataType, ArrayCreateError>
     ensures { MakesPart data_type (kind_of (extension_view metadata.now)) kind result }
 {
-    match DataType::from_metadata(alloc, metadata) {
-        Ok(data_type) => Ok(data_type),
-        Err(error) => Err(data_type_refused(alloc, metadata, error)),
-    }
+    let text = match DataType::from_metadata(alloc, metadata) {
+        Ok(data_type) => return Ok(data_type),
+        Err(PluginCreateError::OutOfMemory) => return Err(ArrayCreateError::OutOfMemory),
+        Err(PluginCreateError::Other(text)) => text,
+    };
+    let text = type_reason(alloc, Some(metadata.name()))?.unwrap_or(text);
+    Err(ArrayCreateError::DataTypeCreateError(PluginCreateError::Other(text)))
 }
 
-/// Makes the refusal of metadata that says no data type.
-fn data_type_refused(
-    alloc: Global,
-    metadata: &MetadataV3,
-    error: PluginCreateError,
-) -> ArrayCreateError
-    requires { RefusesMeaning (kind_of (extension_view metadata.now)) error }
-    ensures { RefusesCreation (said_or data_type (kind_of (extension_view metadata.now)))
-        (create_refusal_of result) }
-{
-    match error {
-        PluginCreateError::OutOfMemory => ArrayCreateError::OutOfMemory,
-        PluginCreateError::Other(text) => match type_reason(alloc, Some(metadata.name())) {
-            Ok(reason) => ArrayCreateError::DataTypeCreateError(PluginCreateError::Other(
-                reason.unwrap_or(text),
-            )),
-            Err(_) => ArrayCreateError::OutOfMemory,
-        },
-    }
-}
-
-pub(crate) fn grid_from(
+/// Makes the grid over an array of this shape that the metadata says.
+///
+/// # Errors
+/// E18 for none. E26 may come at any time.
+pub fn grid_from(
     alloc: Global,
     metadata: &MetadataV3,
     shape: &[u64],
@@ -145,23 +109,25 @@ pub(crate) fn grid_from(
 }
 
 /// Makes the refusal of this as the fill value of the data type of this name.
-fn invalid_fill_value(alloc: Global, name: &str, metadata: &FillValueMetadata) -> ArrayCreateError
-    ensures { RefusesCreation (said_or {A = Unit {0}}
-        (fill_value_metadata name.now (fill_data metadata.now)) None) (create_refusal_of result) }
+fn invalid_fill_value(
+    alloc: Global,
+    name: &str,
+    metadata: &FillValueMetadata,
+) -> Result<ArrayCreateError, AllocError>
+    ensures { IfOk result (λ e. RefusesCreation (said_or {A = Unit {0}}
+        (fill_value_metadata name.now (fill_data metadata.now)) None) (create_refusal_of e)) }
 {
-    let Ok(data_type_name) = String::from_str(alloc, name) else {
-        return ArrayCreateError::OutOfMemory;
-    };
-    let Ok(fill_value_metadata) = metadata.try_clone(alloc) else {
-        return ArrayCreateError::OutOfMemory;
-    };
-    ArrayCreateError::InvalidFillValueMetadata {
-        data_type_name,
-        fill_value_metadata,
-    }
+    Ok(ArrayCreateError::InvalidFillValueMetadata {
+        data_type_name: String::from_str(alloc, name)?,
+        fill_value_metadata: metadata.try_clone(alloc)?,
+    })
 }
 
-fn fill_value_from(
+/// Makes the fill value of the data type of this name that the metadata says.
+///
+/// # Errors
+/// E15 for none. E26 may come at any time.
+pub fn fill_value_from(
     alloc: Global,
     data_type: &DataType,
     name: &str,
@@ -175,7 +141,7 @@ fn fill_value_from(
         Ok(fill_value) => Ok(fill_value),
         Err(DataTypeFillValueMetadataError::OutOfMemory) => Err(ArrayCreateError::OutOfMemory),
         Err(DataTypeFillValueMetadataError::Invalid) => {
-            Err(invalid_fill_value(alloc, name, metadata))
+            Err(invalid_fill_value(alloc, name, metadata)?)
         }
     }
 }
@@ -202,7 +168,11 @@ fn keys_from(alloc: Global, metadata: &MetadataV3) -> Result<ChunkKeyEncoding, A
     }
 }
 
-pub(crate) fn check_names(
+/// Checks that there are as many names as dimensions, if there are names.
+///
+/// # Errors
+/// E21 for more or fewer.
+pub fn check_names(
     dimensions: usize,
     names: &Option<Vec<DimensionName>>,
 ) -> Result<(), ArrayCreateError>

@@ -37,12 +37,12 @@ fn made_by(alloc: Global) -> Result<Value, AllocError>
 fn show_attributes(
     alloc: Global,
     attributes: &mut Map<String, Value>,
-    is_included: bool,
+    options: &ArrayMetadataOptions,
 ) -> Result<(), AllocError>
-    ensures { OnOk result (members_view attributes.new.entries
-        ≡ shown_attributes is_included (members_view attributes.old.entries)) }
+    ensures { OnOk result (members_view attributes.new.entries ≡ shown_attributes
+        (options_view options.now).include_zarrs_metadata (members_view attributes.old.entries)) }
 {
-    if is_included {
+    if options.include_zarrs_metadata() {
         let made_by = made_by(alloc)?;
         serde_json::put(attributes, alloc, "_zarrs", made_by)?;
     }
@@ -107,30 +107,6 @@ fn rename(
     Ok(())
 }
 
-fn rename_data_type(alloc: Global, metadata: &mut MetadataV3) -> Result<(), AllocError>
-    ensures { OnOk result (extension_view metadata.new
-        ≡ renamed main_type_name (extension_view metadata.old)) }
-{
-    let main_name = main_type_name(metadata.name());
-    rename(alloc, metadata, main_name)
-}
-
-fn rename_chunk_grid(alloc: Global, metadata: &mut MetadataV3) -> Result<(), AllocError>
-    ensures { OnOk result (extension_view metadata.new
-        ≡ renamed main_grid_name (extension_view metadata.old)) }
-{
-    let main_name = main_grid_name(metadata.name());
-    rename(alloc, metadata, main_name)
-}
-
-fn rename_chunk_key_encoding(alloc: Global, metadata: &mut MetadataV3) -> Result<(), AllocError>
-    ensures { OnOk result (extension_view metadata.new
-        ≡ renamed main_encoding_name (extension_view metadata.old)) }
-{
-    let main_name = main_encoding_name(metadata.name());
-    rename(alloc, metadata, main_name)
-}
-
 fn renamed_codec(alloc: Global, codec: &MetadataV3) -> Result<MetadataV3, AllocError>
     ensures { IfOk result (λ made. extension_view made
         ≡ renamed main_codec_name (extension_view codec.now)) }
@@ -156,27 +132,25 @@ fn rename_extensions(alloc: Global, metadata: &mut ArrayMetadataV3) -> Result<()
     ensures { OnOk result (document_view metadata.new
         ≡ with_main_names (document_view metadata.old)) }
 {
-    rename_data_type(alloc, &mut metadata.data_type)?;
-    rename_chunk_grid(alloc, &mut metadata.chunk_grid)?;
-    rename_chunk_key_encoding(alloc, &mut metadata.chunk_key_encoding)?;
+    let type_name = main_type_name(metadata.data_type.name());
+    rename(alloc, &mut metadata.data_type, type_name)?;
+    let grid_name = main_grid_name(metadata.chunk_grid.name());
+    rename(alloc, &mut metadata.chunk_grid, grid_name)?;
+    let encoding_name = main_encoding_name(metadata.chunk_key_encoding.name());
+    rename(alloc, &mut metadata.chunk_key_encoding, encoding_name)?;
     metadata.codecs = renamed_codecs(alloc, &metadata.codecs)?;
     Ok(())
 }
 
 fn shown_v3(
     alloc: Global,
-    metadata: ArrayMetadataV3,
+    mut metadata: ArrayMetadataV3,
     options: &ArrayMetadataOptions,
 ) -> Result<ArrayMetadataV3, AllocError>
     ensures { IfOk result (λ m. document_view m
         ≡ shown_v3 (options_view options.now) (document_view metadata)) }
 {
-    let mut metadata = metadata;
-    show_attributes(
-        alloc,
-        &mut metadata.attributes,
-        options.include_zarrs_metadata(),
-    )?;
+    show_attributes(alloc, &mut metadata.attributes, options)?;
     if options.convert_aliased_extension_names() {
         rename_extensions(alloc, &mut metadata)?;
     }
@@ -185,18 +159,13 @@ fn shown_v3(
 
 fn shown_v2(
     alloc: Global,
-    metadata: ArrayMetadataV2,
+    mut metadata: ArrayMetadataV2,
     options: &ArrayMetadataOptions,
 ) -> Result<ArrayMetadataV2, AllocError>
     ensures { IfOk result (λ m. document_v2_view m
         ≡ shown_v2 (options_view options.now) (document_v2_view metadata)) }
 {
-    let mut metadata = metadata;
-    show_attributes(
-        alloc,
-        &mut metadata.attributes,
-        options.include_zarrs_metadata(),
-    )?;
+    show_attributes(alloc, &mut metadata.attributes, options)?;
     Ok(metadata)
 }
 

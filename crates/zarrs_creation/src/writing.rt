@@ -28,10 +28,10 @@ pub struct MetadataPut {
 }
 
 impl MetadataPut {
-    fn erasing(key: StoreKey) -> MetadataPut
-        ensures { put_view result ≡ put_at key None }
+    fn new(key: StoreKey, value: Option<Bytes>) -> MetadataPut
+        ensures { put_view result ≡ put_at key value }
     {
-        MetadataPut { key, value: None }
+        MetadataPut { key, value }
     }
 }
 
@@ -46,12 +46,7 @@ fn puts_of_v3(
 {
     let key = meta_key_v3(alloc, path)?;
     let text = Bytes::from_vec(metadata.to_vec_pretty(alloc)?)?;
-    Ok(vec![in alloc;
-        MetadataPut {
-            key,
-            value: Some(text)
-        },
-    ]?)
+    Ok(vec![in alloc; MetadataPut::new(key, Some(text))]?)
 }
 
 fn text_of_attributes(
@@ -115,7 +110,7 @@ fn erase_v3(alloc: Global, path: &NodePath) -> Result<Vec<MetadataPut>, StorageE
     ensures accepted { IsOkUnless result StorageError.OutOfMemory }
 {
     let key = meta_key_v3(alloc, path)?;
-    Ok(vec![in alloc; MetadataPut::erasing(key)]?)
+    Ok(vec![in alloc; MetadataPut::new(key, None)]?)
 }
 
 fn erase_v2(alloc: Global, path: &NodePath) -> Result<Vec<MetadataPut>, StorageError>
@@ -126,8 +121,8 @@ fn erase_v2(alloc: Global, path: &NodePath) -> Result<Vec<MetadataPut>, StorageE
     let array = meta_key_v2_array(alloc, path)?;
     let attributes = meta_key_v2_attributes(alloc, path)?;
     Ok(vec![in alloc;
-        MetadataPut::erasing(array),
-        MetadataPut::erasing(attributes),
+        MetadataPut::new(array, None),
+        MetadataPut::new(attributes, None),
     ]?)
 }
 
@@ -140,8 +135,8 @@ fn erase_all(alloc: Global, path: &NodePath) -> Result<Vec<MetadataPut>, Storage
     let mut puts = erase_v3(alloc, path)?;
     let array = meta_key_v2_array(alloc, path)?;
     let attributes = meta_key_v2_attributes(alloc, path)?;
-    puts.push(MetadataPut::erasing(array))?;
-    puts.push(MetadataPut::erasing(attributes))?;
+    puts.push(MetadataPut::new(array, None))?;
+    puts.push(MetadataPut::new(attributes, None))?;
     Ok(puts)
 }
 
