@@ -106,17 +106,7 @@ impl ShardingCodec {
             (stores_empty_chunks options.now) chunk.now (option_map (λ encoded. encoded.now)
             stored.entry) (box_of part.now) (data_of bytes.now)) }
     {
-        let sub = self.extents(alloc)?;
-        let Some(subchunks) = Subchunks::new(alloc, chunk.shape, &sub)? else {
-            return Err(CodecError::DoesNotFit(Misfit::TypeOrShape));
-        };
-        let cell_type = chunk.cell_type;
-        if !self
-            .inner_codecs()
-            .fits_chunk(alloc, &cell_type.data_type, &sub)?
-        {
-            return Err(CodecError::DoesNotFit(Misfit::TypeOrShape));
-        }
+        let subchunks = self.subchunks_of(alloc, chunk)?;
         let Some(count) = subchunks.indexed_count() else {
             return Err(refusal_of_index(stored));
         };
@@ -129,7 +119,7 @@ impl ShardingCodec {
             subchunks,
             part,
             bytes,
-            cell_type,
+            cell_type: chunk.cell_type,
             options,
         };
         self.patch_shard(alloc, &update)
@@ -285,11 +275,8 @@ impl ShardingCodec {
     {
         let (subchunks, cell_type) = (&update.subchunks, update.cell_type);
         let Some(range) = range else {
-            return match subchunks.new_fill_part(
-                alloc,
-                &cell_type.data_type,
-                &cell_type.fill_value,
-            )? {
+            let (data_type, fill_value) = (&cell_type.data_type, &cell_type.fill_value);
+            return match subchunks.new_fill_part(alloc, data_type, fill_value)? {
                 Some(part) => Ok(part),
                 None => Err(CodecError::SizeOverflow),
             };

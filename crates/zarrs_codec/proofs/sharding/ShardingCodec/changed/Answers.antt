@@ -20,7 +20,6 @@ update-requires-clause-held c =
     let k = kind_of u.cell_type.now in
     let f = filling u.cell_type.now in
     let m : ChainMeaning = chain_meaning (inner_chain_of c.args.self.now) in
-    let s = chunk_shape u.subchunks in
     let sub = subchunk_shape u.subchunks in
     held_data m (chain-lawful (inner_chain_of c.args.self.now)) k f sub (range_part (bytes_in u) c.args.range) (data_of c.in_ok-held.held) c.in_ok-held.ensures.cells c.in_ok-held.ensures.some
 
