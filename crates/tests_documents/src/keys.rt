@@ -1,7 +1,6 @@
 //! Texts that are no path and no key, copies of keys, and what refusals print.
-use crate::checks::{must, must_eq, must_for};
+use crate::checks::{must, must_eq, must_for, must_say};
 use std::alloc::Global;
-use std::fmt::Display;
 use std::process::Abort;
 use zarrs_keys::{
     ChunkKeyEncoding, ChunkKeyEncodingTraits, ChunkKeySeparator, KeySuffix, KeySuffixError,
@@ -54,11 +53,6 @@ fn texts_that_are_no_path_and_no_key(rt: HostRuntime) {
     must_be_no_data_key(&rt, rt.alloc(), "/", "/c");
     must_be_no_data_key(&rt, rt.alloc(), "/a", "");
     must_be_no_data_key(&rt, rt.alloc(), "/a", "c/");
-}
-
-fn must_say<T: Display + Drop>(rt: &impl Abort, alloc: Global, value: T, text: &str) {
-    let said = format!(in alloc; "{value}").expect(rt, "no refusal");
-    must_eq(rt, said.as_str(), text);
 }
 
 #[test]

@@ -3,7 +3,7 @@ ghost use Rattle.std.specs.Prelude.{◌≡◌, ℕ, true, List, OnOk};
 ghost use Rattle.std.specs.FinMap as map;
 ghost use Rattle.zarrs_storage.specs.Store.{MayReadWhole};
 
-use crate::checks::{must, must_eq};
+use crate::checks::{must, must_eq, must_say};
 use bytes::Bytes;
 use std::alloc::Global;
 use std::process::Abort;
@@ -152,6 +152,19 @@ fn must_answer<S: WritableStorageTraits>(rt: &impl Abort, alloc: Global, store: 
             write,
             answer,
         ),
+    }
+}
+
+/// A store of a type that may be asked anything makes these calls and gives these answers.
+fn must_hold<S: WritableStorageTraits>(rt: &impl Abort, alloc: Global, store: &mut S, rows: &[Row])
+    requires may_ask { (s : S) (key : List ℕ)
+        → (S.ReadableStorageTraits.state s).may_ask key ≡ true }
+    requires may_read { (s : S) (key : List ℕ) (place : ℕ)
+        → (S.ReadableStorageTraits.state s).may_read key place ≡ true }
+{
+    must(rt, store.supports_set_partial());
+    for row in rows {
+        must_answer(rt, alloc, store, row);
     }
 }
 
@@ -347,19 +360,13 @@ fn must_have_counted(rt: &impl Abort, store: Below, case: &Case) {
 
 fn must_hold_directly(rt: &impl Abort, alloc: Global, case: &Case) {
     let mut store = below(rt, alloc, case);
-    for row in case.rows {
-        must_answer(rt, alloc, &mut store, row);
-    }
+    must_hold(rt, alloc, &mut store, case.rows);
     must_have_counted(rt, store, case);
 }
 
 fn must_hold_over_a_loan(rt: &impl Abort, alloc: Global, case: &Case) {
     let mut store = below(rt, alloc, case);
-    let mut lent = Lent::new(&mut store);
-    must(rt, lent.supports_set_partial());
-    for row in case.rows {
-        must_answer(rt, alloc, &mut lent, row);
-    }
+    must_hold(rt, alloc, &mut Lent::new(&mut store), case.rows);
     must_have_counted(rt, store, case);
 }
 
@@ -425,26 +432,19 @@ fn must_hold_over_a_fence(rt: &impl Abort, alloc: Global, case: &Case) {
 
 fn must_hold_over_a_stop(rt: &impl Abort, alloc: Global, case: &Case) {
     let mut store = Stop::new(below(rt, alloc, case), u64::MAX);
-    for row in case.rows {
-        must_answer(rt, alloc, &mut store, row);
-    }
+    must_hold(rt, alloc, &mut store, case.rows);
     must_have_counted(rt, store.into_inner(), case);
 }
 
 fn must_hold_over_a_fault(rt: &impl Abort, alloc: Global, case: &Case) {
     let mut store = Fault::new(below(rt, alloc, case), Vec::new(alloc), None);
-    for row in case.rows {
-        must_answer(rt, alloc, &mut store, row);
-    }
+    must_hold(rt, alloc, &mut store, case.rows);
     must_have_counted(rt, store.into_inner(), case);
 }
 
 fn must_hold_over_refused_values(rt: &impl Abort, alloc: Global, case: &Case) {
     let mut store = WholeRefused::new(below(rt, alloc, case), Vec::new(alloc));
-    must(rt, store.supports_set_partial());
-    for row in case.rows {
-        must_answer(rt, alloc, &mut store, row);
-    }
+    must_hold(rt, alloc, &mut store, case.rows);
     must_have_counted(rt, store.into_inner(), case);
 }
 
@@ -476,9 +476,7 @@ fn values_that_are_not_read_whole(rt: HostRuntime) {
     let alloc = rt.alloc();
     let keys = vec![in alloc; key_of(&rt, alloc, "a")].expect(&rt, "no refusal");
     let mut store = WholeRefused::new(MemoryStore::new(alloc), keys);
-    for row in ROWS {
-        must_answer(&rt, alloc, &mut store, row);
-    }
+    must_hold(&rt, alloc, &mut store, ROWS);
     let store = store.into_inner();
     must_eq(&rt, (store.calls(), store.failures()), (3, 0));
 }
@@ -573,28 +571,9 @@ fn texts_of_refusals(rt: HostRuntime) {
     let said = String::from_str(alloc, "no shape").expect(&rt, "no refusal");
     let invalid = StorageError::InvalidMetadata(key_of(&rt, alloc, "zarr.json"), said);
     const INVALID: &str = "invalid metadata at zarr.json: no shape";
-    must(
-        &rt,
-        is_refused(&rt, alloc, &invalid, &Answer::Refused(INVALID)),
-    );
+    must_say(&rt, alloc, invalid, INVALID);
     const READ_ONLY: &str = "the store is read only";
-    must(
-        &rt,
-        is_refused(
-            &rt,
-            alloc,
-            &StorageError::ReadOnly,
-            &Answer::Refused(READ_ONLY),
-        ),
-    );
+    must_say(&rt, alloc, StorageError::ReadOnly, READ_ONLY);
     const MEMORY: &str = "out of memory";
-    must(
-        &rt,
-        is_refused(
-            &rt,
-            alloc,
-            &StorageError::OutOfMemory,
-            &Answer::Refused(MEMORY),
-        ),
-    );
+    must_say(&rt, alloc, StorageError::OutOfMemory, MEMORY);
 }
