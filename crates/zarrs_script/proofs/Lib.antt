@@ -3,7 +3,6 @@ pub mod Split
 pub mod Lists
 pub mod Regions
 pub mod Reshaped
-pub mod Checks
 pub mod Bytes
 pub mod CellBytes
 pub mod Printing

@@ -1,17 +1,18 @@
 -- Reading a list item by item.
-use Rattle.std.proofs.Common.{◌≡◌, ℕ, ◌+◌, ◌<◌, List, [], ◌∷◌, ◌++◌, length, drop, get_or, Option, Some, None, refl}
+use Rattle.std.proofs.Common.{◌≡◌, ◌==◌, ℕ, ◌+◌, ◌<◌, false, codes, List, [], ◌∷◌, ◌++◌, length, drop, get_or, Option, Some, None, refl}
 use Rattle.std.proofs.Common.{sym, ap, ◌∙◌, append_assoc, arith}
 use Rattle.std.proofs.lemmas.List.{at_drop_more, at_drop_all, append-nil}
-use Rattle.std.specs.List.{concat}
+use Rattle.std.specs.List.{concat, slice_split}
+use Rattle.std.specs.Str.{bytes_eq}
 use Rattle.std.specs.Iterator.{Yields}
 use Rattle.std.proofs.lemmas.Iterator.{YieldsList}
 use Rattle.std.proofs.lemmas.Iterator.Consumers.{YieldsList-turn, YieldsList-end}
 use Rattle.zarrs_metadata_parts.specs.Extension.{◌>>=◌}
 use Rattle.zarrs_script.specs.declared.error.ParseError.{ParseError}
 use Rattle.zarrs_script.specs.declared.error.ParseError.TheVariants.{NotACommand, OutOfMemory}
-use Rattle.zarrs_script.specs.Words.{each_of}
+use Rattle.zarrs_script.specs.Words.{each_of, items_of}
 use Rattle.zarrs_script.specs.CellTexts.{joined_cells}
-use Rattle.zarrs_script.specs.Script.{keys_order, meta_order}
+use Rattle.zarrs_script.specs.Script.{Order, lone_order}
 use Rattle.zarrs_script.specs.Parsed.{Fails}
 
 -- the word is number k of the parts
@@ -20,6 +21,11 @@ IsPart parts k word = (k < length parts) × (word ≡ get_or parts k word)
 
 pub at_part : {Y : Type 0} (f : List (List ℕ) → Y) (parts : List (List ℕ)) (k : ℕ) (word : List ℕ) → IsPart parts k word → f (drop k parts) ≡ f (word ∷ drop (k + 1) parts)
 at_part f parts k word turn = at_drop_more f parts k word turn.0 ∙ ap (λ (w : List ℕ). f (w ∷ drop (k + 1) parts)) (sym turn.1)
+
+-- a word that is not `-` has the items between its commas
+pub items_joined : (word : List ℕ) → bytes_eq word (codes "-") ≡ false → items_of word ≡ slice_split (λ b. b == 44) word
+unfolding items_of
+items_joined word h = rw h refl
 
 -- what an iterator gave at this turn is the next of the list that it yields
 pub turn : {S A B : Type 0} {steps : S → Option A → S → Type 0} {v : A → B} {s : S} {all : List B} (xs : List A) (t : S) → Yields steps s xs t → (r : Option A) (u : S) (x : A) → r ≡ Some x → steps t r u → YieldsList steps v s all
@@ -84,12 +90,7 @@ pub fails_at : (error : ParseError) (item : List ℕ → Option (List ℕ)) (fro
 fails_at NotACommand item front parts k word whole turn h so_far = sym so_far ∙ no_cell item front parts k word turn h
 fails_at OutOfMemory item front parts k word whole turn h so_far = tt
 
--- a line with a word after its verb is no `keys` line
-pub no_keys : (words : List (List ℕ)) → (words ≡ [] → ⊥) → keys_order words ≡ None
-no_keys [] h = absurd (h refl)
-no_keys (word ∷ words) h = refl
-
--- nor a `meta` line
-pub no_meta : (words : List (List ℕ)) → (words ≡ [] → ⊥) → meta_order words ≡ None
-no_meta [] h = absurd (h refl)
-no_meta (word ∷ words) h = refl
+-- an order with a word after it is none
+pub not_alone : (order : Order) (words : List (List ℕ)) → (words ≡ [] → ⊥) → lone_order order words ≡ None
+not_alone order [] h = absurd (h refl)
+not_alone order (word ∷ words) h = refl

@@ -166,25 +166,18 @@ one_more before middle after orders order out text refused again so_far here =
     let second : Outcome = record { text = text; refused = again; after = after } in
     transcript_append before orders (order ∷ []) first second so_far (one_order middle order second here)
 
--- a call without an array
-pub call_skipped : (array : Option OpenArray) (command : Command) (asked : Call) (text : List ℕ) → None ≡ array → command ≡ command_of.Call asked → text ≡ line (codes "skipped")
+-- a command without an array
+pub command_skipped : (array : Option OpenArray) (command : Command) (text : List ℕ) → None ≡ array → ((creation : Creation) → command ≡ command_of.Array creation → ⊥) → text ≡ line (codes "skipped")
     → Does (session_of array) (order_of_command command) (record { text = text; refused = false; after = session_of array })
-call_skipped array command asked text absent is prints = rw (← absent, is, prints) (skips_call asked)
-
--- a `keys` line without an array
-pub keys_skipped : (array : Option OpenArray) (command : Command) (text : List ℕ) → None ≡ array → command ≡ command_of.Keys → text ≡ line (codes "skipped")
-    → Does (session_of array) (order_of_command command) (record { text = text; refused = false; after = session_of array })
-keys_skipped array command text absent is prints = rw (← absent, is, prints) refl
+command_skipped array (command_of.Array creation) text absent other prints = absurd (other creation refl)
+command_skipped array (command_of.Call asked) text absent other prints = rw (← absent, prints) (skips_call asked)
+command_skipped array command_of.Keys text absent other prints = rw (← absent, prints) refl
+command_skipped array command_of.Meta text absent other prints = rw (← absent, prints) refl
 
 -- a `keys` line
 pub keys_listed : (array : OpenArray) (before : Option OpenArray) (command : Command) (text : List ℕ) → Some array ≡ before → command ≡ command_of.Keys → ListsContent (opened array) text
     → Does (session_of before) (order_of_command command) (record { text = text; refused = false; after = Some (opened array) })
 keys_listed array before command text old is lists = rw (← old, is) (record { lists = lists; refused = refl; after = refl })
-
--- a `meta` line without an array
-pub meta_skipped : (array : Option OpenArray) (command : Command) (text : List ℕ) → None ≡ array → command ≡ command_of.Meta → text ≡ line (codes "skipped")
-    → Does (session_of array) (order_of_command command) (record { text = text; refused = false; after = session_of array })
-meta_skipped array command text absent is prints = rw (← absent, is, prints) refl
 
 -- a `meta` line
 pub meta_shown : (array : OpenArray) (before : Option OpenArray) (command : Command) (text : List ℕ) → Some array ≡ before → command ≡ command_of.Meta → text ≡ line (text_of_metadata (metadata_of_array array.array))

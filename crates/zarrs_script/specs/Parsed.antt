@@ -1,6 +1,7 @@
 -- What parsing returns.
-use Rattle.std.specs.Prelude.{◌≡◌, ◌==◌, ℕ, ◌+◌, ◌^◌, nat_lt, Bool, false, List, [], ◌∷◌, ◌++◌, Option, Some, None, Result, Ok, Err}
+use Rattle.std.specs.Prelude.{◌≡◌, ◌==◌, ℕ, List, [], ◌∷◌, ◌++◌, map, Option, Some, None, Result, Ok, Err, Vec}
 use Rattle.std.specs.Borrow.{Bor}
+use Rattle.std.specs.declared.alloc.Global.{Global}
 use Rattle.std.specs.List.{slice_split}
 use Rattle.zarrs_subset.specs.Regions.{box_of}
 use Rattle.zarrs_data_type.specs.ArrayData.{data_of}
@@ -11,10 +12,10 @@ use Rattle.zarrs_script.specs.declared.command.Command.{Command}
 use Rattle.zarrs_script.specs.declared.command.Command.TheVariants as command
 use Rattle.zarrs_script.specs.declared.error.ParseError.{ParseError}
 use Rattle.zarrs_script.specs.declared.error.ParseError.TheVariants.{NotACommand, OutOfMemory}
+use Rattle.zarrs_script.specs.declared.error.ScriptError.{ScriptError}
+use Rattle.zarrs_script.specs.declared.error.ScriptError.TheVariants as script
 use Rattle.zarrs_metadata_parts.specs.Extension.{◌>>=◌}
-use Rattle.zarrs_script.specs.declared.cell_type.CellType.{CellType}
-use Rattle.zarrs_script.specs.Words.{number_of}
-use Rattle.zarrs_script.specs.Script.{type_after, Order, Array, Chunk, Read, Erase, Put, Get, Resize, Keys, Meta, Other}
+use Rattle.zarrs_script.specs.Script.{Order, Array, Chunk, Read, Erase, Put, Get, Resize, Keys, Meta, Other, orders_of}
 
 -- a text that says this is refused with this error: it says nothing, or out of memory
 abbrev pub Fails : {Y : Type 0} → ParseError → Option Y → Type 0
@@ -50,28 +51,10 @@ order_of_command (command.Call asked) = order_of_call asked
 order_of_command command.Keys = Keys
 order_of_command command.Meta = Meta
 
--- the type of the latest array after a line, if the line says an order
-abbrev pub known_after : Option CellType → Option Order → Option CellType
-known_after known None = None
-known_after known (Some order) = type_after known order
-
--- the words are numbers, and their sum is below 2 ^ 64
-abbrev pub is_sum : Option ℕ → Option ℕ → Bool
-is_sum (Some first) (Some extent) = nat_lt (first + extent) (2 ^ 64)
-is_sum _ _ = false
-
-abbrev pub is_range : List ℕ → List ℕ → Bool
-is_range start extent = is_sum (number_of start) (number_of extent)
-
 -- the words of a line that are still to be read
 abbrev pub words_in : Option (Bor (List ℕ)) → List (List ℕ)
 words_in None = []
 words_in (Some rest) = slice_split (λ b. b == 32) rest.now
-
--- the lines of a script that are still to be read
-abbrev pub lines_in : Option (Bor (List ℕ)) → List (List ℕ)
-lines_in None = []
-lines_in (Some rest) = slice_split (λ b. b == 10) rest.now
 
 -- the first of the words, and the others; or there is none
 abbrev pub TakesWord : Option (Bor (List ℕ)) → Result (Bor (List ℕ) × Option (Bor (List ℕ))) ParseError → Type 0
@@ -82,3 +65,9 @@ TakesWord words (Err e) = (e ≡ NotACommand) × (words_in words ≡ [])
 abbrev pub TakesLastWord : Option (Bor (List ℕ)) → Result (Bor (List ℕ)) ParseError → Type 0
 TakesLastWord words (Ok word) = words_in words ≡ word.now ∷ []
 TakesLastWord words (Err e) = (e ≡ NotACommand) × ((word : List ℕ) → words_in words ≡ word ∷ [] → ⊥)
+
+-- the commands of a script ask for its orders, or this is the number of the first line that is not a command, or out of memory
+abbrev pub GivesOrders : List ℕ → Result (Vec Command Global) ScriptError → Type 0
+GivesOrders text (Ok commands) = orders_of text ≡ Ok (map order_of_command commands.items)
+GivesOrders text (Err (script.BadLine n)) = orders_of text ≡ Err n
+GivesOrders text (Err script.OutOfMemory) = Unit {0}

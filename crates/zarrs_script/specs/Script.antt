@@ -77,13 +77,10 @@ abbrev pub one_list : List (List ℕ) → Option (List ℕ)
 one_list (numbers ∷ []) = numbers_in_word numbers
 one_list _ = None
 
-abbrev pub keys_order : List (List ℕ) → Option Order
-keys_order [] = Some Keys
-keys_order _ = None
-
-abbrev pub meta_order : List (List ℕ) → Option Order
-meta_order [] = Some Meta
-meta_order _ = None
+-- this order and nothing else
+abbrev pub lone_order : Order → List (List ℕ) → Option Order
+lone_order order [] = Some order
+lone_order order _ = None
 
 -- The order of a line with this verb and these words after it, if the latest array before it has the known type.
 -- Before the first array there is no order except an array's.
@@ -95,8 +92,8 @@ verb_order verb.Erase known words = known >>= λ _. one_list words >>= λ indice
 verb_order verb.Put known words = known >>= λ cell_type. put_order cell_type words
 verb_order verb.Get known words = known >>= λ _. get_order words
 verb_order verb.Resize known words = known >>= λ _. one_list words >>= λ shape. Some (Resize shape)
-verb_order verb.Keys known words = known >>= λ _. keys_order words
-verb_order verb.Meta known words = known >>= λ _. meta_order words
+verb_order verb.Keys known words = known >>= λ _. lone_order Keys words
+verb_order verb.Meta known words = known >>= λ _. lone_order Meta words
 
 abbrev pub words_order : Option CellType → List (List ℕ) → Option Order
 words_order known [] = None

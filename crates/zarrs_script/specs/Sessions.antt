@@ -9,7 +9,7 @@ use Rattle.zarrs_script.specs.declared.command.Creation.{Creation}
 use Rattle.zarrs_script.specs.declared.array.OpenArray.{OpenArray}
 use Rattle.zarrs_script.specs.declared.error.CreationError.{CreationError}
 use Rattle.zarrs_script.specs.declared.error.CreationError.TheVariants.{NoGrid, OutOfMemory}
-use Rattle.zarrs_script.specs.Script.{Order, orders_of}
+use Rattle.zarrs_script.specs.Script.{Order}
 use Rattle.zarrs_script.specs.Transcript.{Opened, Session, Transcript, MakesGrid, SaysItsParts, parts_of_line, metadata_for, new_array}
 
 -- what an open array is
@@ -64,5 +64,5 @@ abbrev pub Follows : Session → List Order → List ℕ → Bool → Session �
 Follows before orders text refused after = Transcript before orders (record { text = text; refused = refused; after = after })
 
 -- the orders of a script were done, from a session with no array
-abbrev pub HasRun : List ℕ → List ℕ → Bool → Type 0
-HasRun script text refused = (orders : List Order) × (orders_of script ≡ Ok orders) × (after : Session) × Follows None orders text refused after
+abbrev pub HasRun : List Order → List ℕ → Bool → Type 0
+HasRun orders text refused = (after : Session) × Follows None orders text refused after

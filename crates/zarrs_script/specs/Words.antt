@@ -1,4 +1,4 @@
--- What the words of a line say: numbers, lists of what is joined by commas, and regions.
+-- What the words of a line say: names, numbers, lists of what is joined by commas, and regions.
 use Rattle.std.specs.Prelude.{ℕ, ◌+◌, ◌^◌, ◌==◌, ◌&&◌, Bool, false, if◌then◌else◌, nat_lt, List, [], ◌∷◌, codes, Option, Some, None}
 use Rattle.std.specs.Cmp.Lexicographic.{pointwise}
 use Rattle.std.specs.List.{slice_split}
@@ -6,6 +6,11 @@ use Rattle.std.specs.Str.{bytes_eq, all_ascii_digits}
 use Rattle.std.specs.Str.Parse.{digits_value}
 use Rattle.zarrs_subset.specs.Regions.{Box, box_from}
 use Rattle.zarrs_metadata_parts.specs.Extension.{◌>>=◌}
+
+-- what a table of names has for the name
+abbrev pub look_up : {A : Type 0} → List (List ℕ × A) → List ℕ → Option A
+look_up [] name = None
+look_up (entry ∷ others) name = if bytes_eq name entry.0 then Some entry.1 else look_up others name
 
 -- a number: one decimal digit or more, below 2 ^ 64
 abbrev pub is_number : List ℕ → Bool

@@ -3,10 +3,11 @@ ghost use Rattle.std.specs.Prelude.{◌≡◌};
 ghost use Rattle.zarrs_data_type.specs.Kind.{kind};
 ghost use Rattle.zarrs_script.specs.CellTypes.{kind_of_cells, cell_type_size, greatest, is_signed, type_of};
 
+use crate::names::look_up;
 use zarrs_data_type::DataType;
 
 /// The type of an array's cells.
-#[derive(Clone, Copy, Debug, PartialEq, Eq)]
+#[derive(Clone, Copy)]
 pub enum CellType {
     /// `bool`
     Bool,
@@ -28,33 +29,26 @@ pub enum CellType {
     UInt64,
 }
 
+/// The types by their names.
+const CELL_TYPES: [(&[u8], CellType); 9] = [
+    (b"bool", CellType::Bool),
+    (b"int8", CellType::Int8),
+    (b"int16", CellType::Int16),
+    (b"int32", CellType::Int32),
+    (b"int64", CellType::Int64),
+    (b"uint8", CellType::UInt8),
+    (b"uint16", CellType::UInt16),
+    (b"uint32", CellType::UInt32),
+    (b"uint64", CellType::UInt64),
+];
+
 impl CellType {
     /// Returns the type of this name.
     #[tactic(auto, unfolding(crate::specs::CellTypes::type_of))]
     pub fn named(name: &[u8]) -> Option<CellType>
         ensures { result ≡ type_of name.now }
     {
-        if name == b"bool".as_slice() {
-            Some(CellType::Bool)
-        } else if name == b"int8".as_slice() {
-            Some(CellType::Int8)
-        } else if name == b"int16".as_slice() {
-            Some(CellType::Int16)
-        } else if name == b"int32".as_slice() {
-            Some(CellType::Int32)
-        } else if name == b"int64".as_slice() {
-            Some(CellType::Int64)
-        } else if name == b"uint8".as_slice() {
-            Some(CellType::UInt8)
-        } else if name == b"uint16".as_slice() {
-            Some(CellType::UInt16)
-        } else if name == b"uint32".as_slice() {
-            Some(CellType::UInt32)
-        } else if name == b"uint64".as_slice() {
-            Some(CellType::UInt64)
-        } else {
-            None
-        }
+        look_up(&CELL_TYPES, name)
     }
 
     /// Returns the data type of the cells.

@@ -4,10 +4,11 @@ ghost use Rattle.zarrs_data_type.specs.Cell.{fill_cell};
 ghost use Rattle.zarrs_script.specs.CellTypes.{kind_of_cells};
 
 use crate::cell_type::CellType;
+use crate::names::look_up;
 use zarrs_engine::Call;
 
 /// The first word of a line.
-#[derive(Clone, Copy, Debug, PartialEq, Eq)]
+#[derive(Clone, Copy)]
 pub enum Verb {
     /// `array`
     Array,
@@ -27,6 +28,32 @@ pub enum Verb {
     Keys,
     /// `meta`
     Meta,
+}
+
+/// The verbs by their names.
+const VERBS: [(&[u8], Verb); 9] = [
+    (b"array", Verb::Array),
+    (b"chunk", Verb::Chunk),
+    (b"read", Verb::Read),
+    (b"erase", Verb::Erase),
+    (b"put", Verb::Put),
+    (b"get", Verb::Get),
+    (b"resize", Verb::Resize),
+    (b"keys", Verb::Keys),
+    (b"meta", Verb::Meta),
+];
+
+impl Verb {
+    ghost use Rattle.std.specs.Prelude.{◌≡◌};
+    ghost use Rattle.zarrs_script.specs.Script.{verb_of};
+
+    /// Returns the verb of this name.
+    #[tactic(auto, unfolding(crate::specs::Script::verb_of))]
+    pub fn named(name: &[u8]) -> Option<Verb>
+        ensures { result ≡ verb_of name.now }
+    {
+        look_up(&VERBS, name)
+    }
 }
 
 /// A new array. There may be no such array: the lists are as the line has them.

@@ -5,41 +5,37 @@ ghost use Rattle.zarrs_script.specs.declared.error.CreationError.TheVariants as 
 
 use std::alloc::{AllocError, AllocFailed};
 use std::io;
-use thiserror::Error;
 
 /// Why a line is not read.
-#[derive(Clone, Copy, Debug, Drop, PartialEq, Eq, Error)]
+#[derive(Clone, Copy, Drop)]
 pub enum ParseError {
     /// The line is not a command.
-    #[error("not a command")]
     NotACommand,
     /// Out of memory.
-    #[error("out of memory")]
+    OutOfMemory,
+}
+
+/// Why a script has no commands.
+#[derive(Clone, Copy, Drop)]
+pub enum ScriptError {
+    /// The line of this number, from 1, is the first one that is not a command.
+    BadLine(u64),
+    /// Out of memory.
     OutOfMemory,
 }
 
 /// Why an `array` line is refused.
-#[derive(Clone, Copy, Debug, Drop, PartialEq, Eq, Error)]
+#[derive(Clone, Copy, Drop)]
 pub enum CreationError {
     /// The chunk shape has another length than the shape, or an extent 0.
-    #[error("the chunk shape makes no grid of the array shape")]
     NoGrid,
     /// Out of memory.
-    #[error("out of memory")]
     OutOfMemory,
 }
 
 /// Input, output or memory outside a call failed.
-#[derive(Debug, Drop)]
+#[derive(Drop)]
 pub struct Stopped;
-
-impl From<AllocError> for ParseError {
-    ghost from_gives = { λ _ e. e ≡ parse.OutOfMemory };
-
-    fn from(_error: AllocError) -> ParseError {
-        ParseError::OutOfMemory
-    }
-}
 
 impl<T: Drop> From<AllocFailed<T>> for ParseError {
     ghost from_gives = { λ _ e. e ≡ parse.OutOfMemory };

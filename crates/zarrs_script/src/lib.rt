@@ -1,8 +1,8 @@
 //! Scripts: lines that make an array in memory, call it, list the keys of its store, and show its metadata.
 //!
 //! The program `zarrs_run` uses `run_script`, which reads a script, writes its transcript, and returns the status.
-//! `metadata_of_parts` makes the metadata of the array of a script, `metadata_text` its text, and `CellType` is the
-//! type of its cells.
+//! `commands_of` reads its commands, `metadata_of_parts` makes the metadata of its array, and `CellType` is the type of
+//! its cells.
 //!
 //! `orders_of` of `specs/Script.antt` is what the bytes of a script say, or the first line that is no command.
 //! `Transcript` of `specs/Transcript.antt` is what is printed: each call is a `Step` of `zarrs_engine_calls`.
@@ -12,14 +12,13 @@
 
 mod array;
 mod cell_type;
-mod check;
 mod command;
 mod create;
 mod error;
+mod names;
 mod parse;
 mod parts;
 mod print;
 mod run;
-mod text;
 
 pub use run::run_script;

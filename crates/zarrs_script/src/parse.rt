@@ -1,57 +1,27 @@
-//! Reads the commands of a script, one line at a time.
-ghost use Rattle.std.specs.Prelude.{◌≡◌, ◌==◌, ◌∷◌, ◌++◌, position, IfOk, OnOk, IsSome};
-ghost use Rattle.std.specs.List.{slice_split};
+//! Reads the commands of a script.
+ghost use Rattle.std.specs.Prelude.{◌≡◌, ◌==◌, position, IfOk, IsSome, Some};
 ghost use Rattle.zarrs_subset.specs.Regions.{box_of};
 ghost use Rattle.zarrs_data_type.specs.Cell.{fill_cell};
-ghost use Rattle.zarrs_script.specs.Words.{number_of, each_of, numbers_in_word, region_of};
+ghost use Rattle.zarrs_script.specs.Words.{number_of, numbers_in_word, region_of};
 ghost use Rattle.zarrs_script.specs.CellTypes.{kind_of_cells};
-ghost use Rattle.zarrs_script.specs.CellTexts.{cell_of, joined_cells, cells_of, low_bytes};
-ghost use Rattle.zarrs_script.specs.CellTexts.{positive, negative, unsigned_cell, signed_cell};
-ghost use Rattle.zarrs_script.specs.Script.{verb_of, array_order, chunk_order, put_order};
-ghost use Rattle.zarrs_script.specs.Script.{get_order, one_list, keys_order, meta_order, verb_order};
+ghost use Rattle.zarrs_script.specs.CellTexts.{cell_of, cells_of, low_bytes, positive, negative};
+ghost use Rattle.zarrs_script.specs.Script.{array_order, chunk_order, put_order};
+ghost use Rattle.zarrs_script.specs.Script.{get_order, one_list, lone_order, verb_order};
 ghost use Rattle.zarrs_script.specs.Script.{order_of, type_after, is_skipped};
-ghost use Rattle.zarrs_script.specs.Parsed.{Gives, Grows, words_in, lines_in};
+ghost use Rattle.zarrs_script.specs.Parsed.{Gives, GivesOrders, Grows, words_in};
 ghost use Rattle.zarrs_script.specs.Parsed.{TakesWord, TakesLastWord, order_of_command};
 
 use crate::cell_type::CellType;
 use crate::command::{Command, Creation, Verb};
-use crate::error::ParseError;
-use std::alloc::{AllocError, Global};
+use crate::error::{ParseError, ScriptError};
+use std::alloc::Global;
 use std::borrow::CowSlice;
 use zarrs_data_type::ArrayBytes;
 use zarrs_engine::Call;
 use zarrs_subset::ArraySubset;
 
-/// Returns the verb of this name.
-#[tactic(auto, unfolding(crate::specs::Script::verb_of))]
-pub fn verb_of(word: &[u8]) -> Option<Verb>
-    ensures { result ≡ verb_of word.now }
-{
-    if word == b"array".as_slice() {
-        Some(Verb::Array)
-    } else if word == b"chunk".as_slice() {
-        Some(Verb::Chunk)
-    } else if word == b"read".as_slice() {
-        Some(Verb::Read)
-    } else if word == b"erase".as_slice() {
-        Some(Verb::Erase)
-    } else if word == b"put".as_slice() {
-        Some(Verb::Put)
-    } else if word == b"get".as_slice() {
-        Some(Verb::Get)
-    } else if word == b"resize".as_slice() {
-        Some(Verb::Resize)
-    } else if word == b"keys".as_slice() {
-        Some(Verb::Keys)
-    } else if word == b"meta".as_slice() {
-        Some(Verb::Meta)
-    } else {
-        None
-    }
-}
-
-/// One decimal digit or more, of a number below 2^64.
-pub fn number_of(word: &[u8]) -> Option<u64>
+/// Returns the number that the word writes: one decimal digit or more, of a number below 2^64.
+fn number_of(word: &[u8]) -> Option<u64>
     ensures { result ≡ number_of word.now }
 {
     if word.is_empty() {
@@ -70,8 +40,8 @@ pub fn number_of(word: &[u8]) -> Option<u64>
 }
 
 /// Adds the lowest bytes of the number, the lowest first.
-fn push_bytes(cells: &mut Vec<u8>, count: usize, number: u64) -> Result<(), AllocError>
-    ensures { OnOk result (cells.new.items ≡ cells.old.items ++ low_bytes count number) }
+fn push_bytes(cells: &mut Vec<u8>, count: usize, number: u64) -> Result<(), ParseError>
+    ensures { Grows result cells.old.items cells.new.items (Some (low_bytes count number)) }
 {
     let mut rest = number;
     for _ in 0..count {
@@ -88,8 +58,7 @@ fn push_positive(cells: &mut Vec<u8>, cell_type: CellType, number: u64) -> Resul
     if number > cell_type.greatest() {
         return Err(ParseError::NotACommand);
     }
-    push_bytes(cells, cell_type.size(), number)?;
-    Ok(())
+    push_bytes(cells, cell_type.size(), number)
 }
 
 /// Adds the bytes of the cell with this number below 0.
@@ -99,28 +68,7 @@ fn push_negative(cells: &mut Vec<u8>, cell_type: CellType, number: u64) -> Resul
     if !cell_type.is_signed() || number > cell_type.greatest() + 1 {
         return Err(ParseError::NotACommand);
     }
-    push_bytes(cells, cell_type.size(), 0u64.wrapping_sub(number))?;
-    Ok(())
-}
-
-/// Adds the bytes of the cell with the number that the digits write.
-fn push_unsigned(cells: &mut Vec<u8>, cell_type: CellType, digits: &[u8]) -> Result<(), ParseError>
-    ensures { Grows result cells.old.items cells.new.items (unsigned_cell cell_type digits.now) }
-{
-    let Some(number) = number_of(digits) else {
-        return Err(ParseError::NotACommand);
-    };
-    push_positive(cells, cell_type, number)
-}
-
-/// Adds the bytes of the cell with the number below 0 that the digits write.
-fn push_signed(cells: &mut Vec<u8>, cell_type: CellType, digits: &[u8]) -> Result<(), ParseError>
-    ensures { Grows result cells.old.items cells.new.items (signed_cell cell_type digits.now) }
-{
-    let Some(number) = number_of(digits) else {
-        return Err(ParseError::NotACommand);
-    };
-    push_negative(cells, cell_type, number)
+    push_bytes(cells, cell_type.size(), 0u64.wrapping_sub(number))
 }
 
 /// Adds the bytes of the cell that the word writes.
@@ -128,13 +76,16 @@ fn push_signed(cells: &mut Vec<u8>, cell_type: CellType, digits: &[u8]) -> Resul
 fn push_cell(cells: &mut Vec<u8>, cell_type: CellType, word: &[u8]) -> Result<(), ParseError>
     ensures { Grows result cells.old.items cells.new.items (cell_of cell_type word.now) }
 {
-    let Some((first, digits)) = word.split_first() else {
-        return Err(ParseError::NotACommand);
-    };
-    if *first == b'-' {
-        push_signed(cells, cell_type, digits)
-    } else {
-        push_unsigned(cells, cell_type, word)
+    match word {
+        [] => Err(ParseError::NotACommand),
+        [b'-', digits @ ..] => match number_of(digits) {
+            Some(number) => push_negative(cells, cell_type, number),
+            None => Err(ParseError::NotACommand),
+        },
+        _ => match number_of(word) {
+            Some(number) => push_positive(cells, cell_type, number),
+            None => Err(ParseError::NotACommand),
+        },
     }
 }
 
@@ -148,12 +99,15 @@ fn cell_of(alloc: Global, cell_type: CellType, word: &[u8]) -> Result<Vec<u8>, P
     Ok(cell)
 }
 
-/// Returns the numbers that are joined by commas.
-fn number_items(alloc: Global, word: &[u8]) -> Result<Vec<u64>, ParseError>
-    ensures { Gives (λ numbers. numbers.items) result
-        (each_of number_of (slice_split (λ b. b == 44) word.now)) }
+/// Returns the numbers of a list: they are joined by commas, or there are none, for `-`.
+#[tactic(auto, unfolding(crate::specs::Words::items_of))]
+fn numbers_in_word(alloc: Global, word: &[u8]) -> Result<Vec<u64>, ParseError>
+    ensures { Gives (λ numbers. numbers.items) result (numbers_in_word word.now) }
 {
     let mut numbers = Vec::new(alloc);
+    if word == b"-".as_slice() {
+        return Ok(numbers);
+    }
     for item in word.split(|byte| *byte == b',') {
         let Some(number) = number_of(item) else {
             return Err(ParseError::NotACommand);
@@ -163,38 +117,19 @@ fn number_items(alloc: Global, word: &[u8]) -> Result<Vec<u64>, ParseError>
     Ok(numbers)
 }
 
-/// Returns the numbers of a list: they are joined by commas, or there are none, for `-`.
-#[tactic(auto, unfolding(crate::specs::Words::items_of))]
-fn numbers_in_word(alloc: Global, word: &[u8]) -> Result<Vec<u64>, ParseError>
-    ensures { Gives (λ numbers. numbers.items) result (numbers_in_word word.now) }
-{
-    if word == b"-".as_slice() {
-        return Ok(Vec::new(alloc));
-    }
-    number_items(alloc, word)
-}
-
-/// Returns the bytes of the cells that are joined by commas.
-fn cell_items(alloc: Global, cell_type: CellType, word: &[u8]) -> Result<Vec<u8>, ParseError>
-    ensures { Gives (λ cells. cells.items) result
-        (joined_cells (each_of (cell_of cell_type) (slice_split (λ b. b == 44) word.now))) }
-{
-    let mut cells = Vec::new(alloc);
-    for item in word.split(|byte| *byte == b',') {
-        push_cell(&mut cells, cell_type, item)?;
-    }
-    Ok(cells)
-}
-
 /// Returns the bytes of the cells of a list.
 #[tactic(auto, unfolding(crate::specs::Words::items_of))]
 fn cells_of(alloc: Global, cell_type: CellType, word: &[u8]) -> Result<Vec<u8>, ParseError>
     ensures { Gives (λ cells. cells.items) result (cells_of cell_type word.now) }
 {
+    let mut cells = Vec::new(alloc);
     if word == b"-".as_slice() {
-        return Ok(Vec::new(alloc));
+        return Ok(cells);
     }
-    cell_items(alloc, cell_type, word)
+    for item in word.split(|byte| *byte == b',') {
+        push_cell(&mut cells, cell_type, item)?;
+    }
+    Ok(cells)
 }
 
 /// Returns where the first space is.
@@ -208,7 +143,7 @@ fn space_in(text: &[u8]) -> Option<usize>
 ///
 /// # Errors
 /// `NotACommand` if there is no word.
-pub fn next_word(words: Option<&[u8]>) -> Result<(&[u8], Option<&[u8]>), ParseError>
+fn next_word(words: Option<&[u8]>) -> Result<(&[u8], Option<&[u8]>), ParseError>
     ensures { TakesWord words.entry result }
 {
     let Some(text) = words else {
@@ -224,7 +159,7 @@ pub fn next_word(words: Option<&[u8]>) -> Result<(&[u8], Option<&[u8]>), ParseEr
 ///
 /// # Errors
 /// `NotACommand` if there is no word, or more than one.
-pub fn last_word(words: Option<&[u8]>) -> Result<&[u8], ParseError>
+fn last_word(words: Option<&[u8]>) -> Result<&[u8], ParseError>
     ensures { TakesLastWord words.entry result }
 {
     match next_word(words)? {
@@ -312,20 +247,13 @@ fn one_list(alloc: Global, words: Option<&[u8]>) -> Result<Vec<u64>, ParseError>
     numbers_in_word(alloc, numbers)
 }
 
-fn keys_command(words: Option<&[u8]>) -> Result<Command, ParseError>
-    ensures { Gives order_of_command result (keys_order (words_in words.entry)) }
+/// Returns the command of a line that has no more words.
+fn lone_command(words: Option<&[u8]>, command: Command) -> Result<Command, ParseError>
+    ensures { Gives order_of_command result
+        (lone_order (order_of_command command) (words_in words.entry)) }
 {
     match words {
-        None => Ok(Command::Keys),
-        Some(_) => Err(ParseError::NotACommand),
-    }
-}
-
-fn meta_command(words: Option<&[u8]>) -> Result<Command, ParseError>
-    ensures { Gives order_of_command result (meta_order (words_in words.entry)) }
-{
-    match words {
-        None => Ok(Command::Meta),
+        None => Ok(command),
         Some(_) => Err(ParseError::NotACommand),
     }
 }
@@ -348,8 +276,8 @@ fn verb_command(
         (Verb::Put, Some(cell_type)) => put_command(alloc, cell_type, words),
         (Verb::Get, Some(_)) => get_command(alloc, words),
         (Verb::Resize, Some(_)) => Ok(Command::Call(Call::Resize(one_list(alloc, words)?))),
-        (Verb::Keys, Some(_)) => keys_command(words),
-        (Verb::Meta, Some(_)) => meta_command(words),
+        (Verb::Keys, Some(_)) => lone_command(words, Command::Keys),
+        (Verb::Meta, Some(_)) => lone_command(words, Command::Meta),
     }
 }
 
@@ -358,20 +286,16 @@ fn verb_command(
 /// # Errors
 /// `NotACommand` for a line that is no command. `OutOfMemory` may come at any time.
 #[tactic(auto, unfolding(crate::specs::Script::order_of))]
-pub fn command_of(
-    alloc: Global,
-    known: Option<CellType>,
-    line: &[u8],
-) -> Result<Command, ParseError>
+fn command_of(alloc: Global, known: Option<CellType>, line: &[u8]) -> Result<Command, ParseError>
     ensures { Gives order_of_command result (order_of known line.now) }
 {
     let (first, words) = next_word(Some(line))?;
-    let verb = verb_of(first).ok_or(ParseError::NotACommand)?;
+    let verb = Verb::named(first).ok_or(ParseError::NotACommand)?;
     verb_command(alloc, verb, known, words)
 }
 
 /// Returns the type of the latest array after this command.
-pub fn type_after(known: Option<CellType>, command: &Command) -> Option<CellType>
+fn type_after(known: Option<CellType>, command: &Command) -> Option<CellType>
     ensures { result ≡ type_after known (order_of_command command.now) }
 {
     match command {
@@ -380,29 +304,40 @@ pub fn type_after(known: Option<CellType>, command: &Command) -> Option<CellType
     }
 }
 
-/// Returns where the first line ends.
-fn line_end_in(text: &[u8]) -> Option<usize>
-    ensures { result ≡ position (λ b. b == 10) text.now }
-{
-    text.iter().position(|byte| *byte == b'\n')
-}
-
-/// Returns the first of the lines, and the others if there are any.
-pub fn next_line(text: &[u8]) -> (&[u8], Option<&[u8]>)
-    ensures { slice_split (λ b. b == 10) text.now ≡ result.0.now ∷ lines_in result.1 }
-{
-    match line_end_in(text) {
-        Some(place) => (&text[..place], Some(&text[place + 1..])),
-        None => (text, None),
-    }
-}
-
 /// Returns whether the line is empty, or begins with `#`.
-pub fn is_skipped(line: &[u8]) -> bool
+fn is_skipped(line: &[u8]) -> bool
     ensures { result ≡ is_skipped line.now }
 {
     match line {
         [] => true,
         [first, ..] => *first == b'#',
     }
+}
+
+/// Returns the commands of a script.
+///
+/// # Errors
+/// `BadLine` for the first line that is neither a command nor skipped. `OutOfMemory` may come at any time.
+pub fn commands_of(alloc: Global, script: &[u8]) -> Result<Vec<Command>, ScriptError>
+    ensures { GivesOrders script.now result }
+{
+    let mut commands = Vec::new(alloc);
+    let mut known = None;
+    let mut number = 0u64;
+    for line in script.split(|byte| *byte == b'\n') {
+        number += 1;
+        if is_skipped(line) {
+            continue;
+        }
+        let command = match command_of(alloc, known, line) {
+            Ok(command) => command,
+            Err(ParseError::NotACommand) => return Err(ScriptError::BadLine(number)),
+            Err(ParseError::OutOfMemory) => return Err(ScriptError::OutOfMemory),
+        };
+        known = type_after(known, &command);
+        let Ok(()) = commands.push(command) else {
+            return Err(ScriptError::OutOfMemory);
+        };
+    }
+    Ok(commands)
 }

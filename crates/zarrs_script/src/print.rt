@@ -15,10 +15,9 @@ ghost use Rattle.zarrs_script.specs.Sessions.{Puts};
 
 use crate::cell_type::CellType;
 use crate::error::Stopped;
-use crate::text::metadata_text;
 use bytes::Bytes;
 use itoa::Buffer;
-use std::alloc::{AllocError, Global};
+use std::alloc::Global;
 use std::io::Write;
 use zarrs_codec::CodecError;
 use zarrs_data_type::{ArrayBytes, ElementError};
@@ -48,8 +47,8 @@ pub fn write_pending<W: Write>(writer: &mut W, out: &mut Vec<u8>) -> Result<(), 
 /// Prints a line.
 ///
 /// # Errors
-/// `AllocError`: out of memory.
-pub fn put_line(out: &mut Vec<u8>, text: &[u8]) -> Result<(), AllocError>
+/// `Stopped` if out of memory.
+pub fn put_line(out: &mut Vec<u8>, text: &[u8]) -> Result<(), Stopped>
     ensures { OnOk result (out.new.items ≡ out.old.items ++ line text.now) }
 {
     out.extend_from_slice(text)?;
@@ -60,8 +59,8 @@ pub fn put_line(out: &mut Vec<u8>, text: &[u8]) -> Result<(), AllocError>
 /// Prints the line of a refusal, by its number.
 ///
 /// # Errors
-/// `AllocError`: out of memory.
-pub fn put_refusal(out: &mut Vec<u8>, number: u8) -> Result<(), AllocError>
+/// `Stopped` if out of memory.
+pub fn put_refusal(out: &mut Vec<u8>, number: u8) -> Result<(), Stopped>
     ensures { OnOk result (out.new.items ≡ out.old.items ++ refusal number) }
 {
     let mut buffer = Buffer::new();
@@ -74,8 +73,8 @@ pub fn put_refusal(out: &mut Vec<u8>, number: u8) -> Result<(), AllocError>
 /// Returns the text for a line, by its number, that is not a command.
 ///
 /// # Errors
-/// `AllocError`: out of memory.
-pub fn complaint(alloc: Global, number: u64) -> Result<Vec<u8>, AllocError>
+/// `Stopped` if out of memory.
+pub fn complaint(alloc: Global, number: u64) -> Result<Vec<u8>, Stopped>
     ensures { IfOk result (λ text. text.items
         ≡ line (codes "line " ++ decimal number ++ codes ": not a command")) }
 {
@@ -98,29 +97,23 @@ fn value_of(bytes: &[u8]) -> u64
     value
 }
 
-fn put_decimal(out: &mut Vec<u8>, number: u64) -> Result<(), AllocError>
+fn put_decimal(out: &mut Vec<u8>, number: u64) -> Result<(), Stopped>
     ensures { OnOk result (out.new.items ≡ out.old.items ++ decimal number) }
 {
     let mut buffer = Buffer::new();
-    out.extend_from_slice(buffer.format(number).as_bytes())
-}
-
-/// Prints a number below 0.
-fn put_negative(out: &mut Vec<u8>, number: u64) -> Result<(), AllocError>
-    ensures { OnOk result (out.new.items ≡ out.old.items ++ 45 ∷ decimal number) }
-{
-    out.push(b'-')?;
-    put_decimal(out, number)
+    out.extend_from_slice(buffer.format(number).as_bytes())?;
+    Ok(())
 }
 
 /// Prints a cell.
-fn put_number(out: &mut Vec<u8>, cell_type: CellType, cell: &[u8]) -> Result<(), AllocError>
+fn put_number(out: &mut Vec<u8>, cell_type: CellType, cell: &[u8]) -> Result<(), Stopped>
     requires { length cell.now ≡ cell_type_size cell_type }
     ensures { OnOk result (out.new.items ≡ out.old.items ++ number_text cell_type cell.now) }
 {
     let value = value_of(cell);
     if cell_type.is_signed() && value > cell_type.greatest() {
-        return put_negative(out, cell_type.greatest() * 2 + 1 - value + 1);
+        out.push(b'-')?;
+        return put_decimal(out, cell_type.greatest() * 2 + 1 - value + 1);
     }
     put_decimal(out, value)
 }
@@ -138,8 +131,7 @@ fn put_cells<W: Write>(
 {
     let size = cell_type.size();
     if bytes.len() < size {
-        put_line(out, b"-")?;
-        return Ok(());
+        return put_line(out, b"-");
     }
     put_number(out, cell_type, &bytes[..size])?;
     for index in 1..bytes.len() / size {
@@ -172,7 +164,7 @@ fn refusal_number(error: &ArrayError) -> u8
     }
 }
 
-/// Prints the reply, and tells whether it is a refusal.
+/// Prints the reply.
 ///
 /// # Errors
 /// `Stopped` if the output fails, or out of memory.
@@ -181,53 +173,49 @@ pub fn put_reply<W: Write>(
     out: &mut Vec<u8>,
     cell_type: CellType,
     reply: &Reply,
-) -> Result<bool, Stopped>
+) -> Result<(), Stopped>
     requires { IsSome (reply_text cell_type reply.now) }
-    ensures text { OnOk result (Puts (W.contents writer.old) (W.contents writer.new)
+    ensures { OnOk result (Puts (W.contents writer.old) (W.contents writer.new)
         out.old.items out.new.items (λ text. reply_text cell_type reply.now ≡ Some text)) }
-    ensures refused { IfOk result (λ refused. refused ≡ is_refusal reply.now) }
 {
     match reply {
-        Reply::Done | Reply::Compacted(_) => {
-            put_line(out, b"ok")?;
-            Ok(false)
-        }
-        Reply::MaybeCells(None) => {
-            put_line(out, b"none")?;
-            Ok(false)
-        }
+        Reply::Done | Reply::Compacted(_) => put_line(out, b"ok"),
+        Reply::MaybeCells(None) => put_line(out, b"none"),
         Reply::Cells(data) | Reply::MaybeCells(Some(data)) => {
             let ArrayBytes::Fixed(cells) = data else {
                 unreachable!();
             };
-            put_cells(writer, out, cell_type, cells.as_slice())?;
-            Ok(false)
+            put_cells(writer, out, cell_type, cells.as_slice())
         }
-        Reply::Refused(error) => {
-            put_refusal(out, refusal_number(error))?;
-            Ok(true)
-        }
+        Reply::Refused(error) => put_refusal(out, refusal_number(error)),
     }
+}
+
+/// Returns whether the reply is a refusal.
+pub fn is_refusal(reply: &Reply) -> bool
+    ensures { result ≡ is_refusal reply.now }
+{
+    matches!(reply, Reply::Refused(_))
 }
 
 /// Prints that a line was skipped.
 ///
 /// # Errors
-/// `AllocError`: out of memory.
-pub fn put_skipped(out: &mut Vec<u8>) -> Result<(), AllocError>
+/// `Stopped` if out of memory.
+pub fn put_skipped(out: &mut Vec<u8>) -> Result<(), Stopped>
     ensures { OnOk result (out.new.items ≡ out.old.items ++ line (codes "skipped")) }
 {
     put_line(out, b"skipped")
 }
 
 /// Returns the bytes at a key, or none. A store in memory is refused only if out of memory.
-fn value_at(alloc: Global, store: &MemoryStore, key: &StoreKey) -> Result<Bytes, AllocError>
+fn value_at(alloc: Global, store: &MemoryStore, key: &StoreKey) -> Result<Bytes, Stopped>
     ensures { IfOk result (λ value. value ≡ bytes_at store.now.values key.now) }
 {
     match store.get(alloc, key) {
         Ok(Some(value)) => Ok(value),
         Ok(None) => Ok(Bytes::new()),
-        Err(_) => Err(AllocError),
+        Err(_) => Err(Stopped),
     }
 }
 
@@ -237,7 +225,7 @@ fn put_key(
     out: &mut Vec<u8>,
     store: &MemoryStore,
     key: &StoreKey,
-) -> Result<(), AllocError>
+) -> Result<(), Stopped>
     ensures { OnOk result (out.new.items ≡ out.old.items ++ key_text store.now.values key.now) }
 {
     out.extend_from_slice(key.as_str().as_bytes())?;
@@ -264,8 +252,7 @@ pub fn put_keys<W: Write>(
 {
     let keys = store.keys(alloc)?;
     if keys.is_empty() {
-        put_line(out, b"none")?;
-        return Ok(());
+        return put_line(out, b"none");
     }
     for key in &keys {
         put_key(alloc, out, store, key)?;
@@ -274,19 +261,20 @@ pub fn put_keys<W: Write>(
     Ok(())
 }
 
-/// Prints the compact text of the metadata.
+/// Prints the compact JSON text of the metadata: its members in ascending order of their names, without spaces.
 ///
 /// # Errors
-/// `AllocError`: out of memory.
+/// `Stopped` if out of memory.
 pub fn put_metadata(
     alloc: Global,
     out: &mut Vec<u8>,
     metadata: &ArrayMetadata,
-) -> Result<(), AllocError>
+) -> Result<(), Stopped>
     requires { has_float (data_of_metadata (metadata_view metadata.now)) ≡ false }
     ensures { OnOk result
         (out.new.items ≡ out.old.items ++ line (text_of_metadata (metadata_view metadata.now))) }
 {
-    let text = metadata_text(alloc, metadata)?;
+    let value = metadata.to_value(alloc)?;
+    let text = value.to_string(alloc)?;
     put_line(out, text.as_bytes())
 }

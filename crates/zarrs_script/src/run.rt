@@ -1,21 +1,19 @@
 //! `run_script`: runs a script, and writes what it prints.
-ghost use Rattle.std.specs.Prelude.{◌≡◌, IfOk, OnOk, ◌⊎◌, None, Some};
-ghost use Rattle.std.specs.Result.{result_err};
+ghost use Rattle.std.specs.Prelude.{◌≡◌, IfOk, OnOk, ◌⊎◌, Some, map};
 ghost use Rattle.zarrs_script.specs.Parsed.{order_of_call, order_of_command};
-ghost use Rattle.zarrs_script.specs.Script.{orders_of};
 ghost use Rattle.zarrs_script.specs.Transcript.{Opens, ListsContent, Does};
 ghost use Rattle.zarrs_script.specs.Answers.{IsAnswer, ReadsAll, WritesText};
 ghost use Rattle.zarrs_script.specs.Sessions.{opened, session_of, Prints, Puts, HasRun};
 
 use crate::array::OpenArray;
-use crate::check::first_bad_line;
 use crate::command::{Command, Creation};
-use crate::error::{CreationError, ParseError, Stopped};
-use crate::parse::{command_of, is_skipped, next_line, type_after};
+use crate::error::{CreationError, ScriptError, Stopped};
+use crate::parse::commands_of;
 use crate::print::{
-    complaint, put_keys, put_line, put_metadata, put_refusal, put_reply, put_skipped, write_pending,
+    complaint, is_refusal, put_keys, put_line, put_metadata, put_refusal, put_reply, put_skipped,
+    write_pending,
 };
-use std::alloc::{AllocError, Global};
+use std::alloc::Global;
 use std::io::{Read, Write};
 use zarrs::laws::an_array_is_its_metadata;
 use zarrs_codec::CodecOptions;
@@ -26,7 +24,7 @@ fn open(
     alloc: Global,
     out: &mut Vec<u8>,
     creation: Creation,
-) -> Result<(Option<OpenArray>, bool), AllocError>
+) -> Result<(Option<OpenArray>, bool), Stopped>
     ensures { IfOk result (λ opening. Prints out.old.items out.new.items
         (λ text. Opens creation.shape.items creation.chunk_shape.items creation.cell_type
         creation.fill.items (record {
@@ -73,8 +71,8 @@ fn make_call<W: Write>(
     let Some(reply) = replies.pop() else {
         unreachable!();
     };
-    let refused = put_reply(writer, out, array.cell_type, &reply)?;
-    Ok(refused)
+    put_reply(writer, out, array.cell_type, &reply)?;
+    Ok(is_refusal(&reply))
 }
 
 /// Prints the key of each chunk that has a cell other than fill, in ascending order, and the bytes of its cells, or that
@@ -138,29 +136,19 @@ fn run_command<W: Write>(
     }
 }
 
-/// Runs the lines of a script and writes what they print, and tells whether one was refused.
-fn run_lines<W: Write>(alloc: Global, writer: &mut W, script: &[u8]) -> Result<bool, Stopped>
-    requires { result_err (orders_of script.now) ≡ None }
+/// Runs commands one after another and writes what they print, and tells whether one was refused.
+fn run_commands<W: Write>(
+    alloc: Global,
+    writer: &mut W,
+    commands: Vec<Command>,
+) -> Result<bool, Stopped>
     ensures { IfOk result (λ refused. WritesText (W.contents writer.old) (W.contents writer.new)
-        (λ text. HasRun script.now text refused)) }
+        (λ text. HasRun (map order_of_command commands.items) text refused)) }
 {
-    let mut known = None;
     let mut array = None;
     let mut refused = false;
     let mut out = Vec::new(alloc);
-    let mut rest = Some(script);
-    while let Some(text) = rest {
-        let (line, others) = next_line(text);
-        rest = others;
-        if is_skipped(line) {
-            continue;
-        }
-        let command = match command_of(alloc, known, line) {
-            Ok(command) => command,
-            Err(ParseError::NotACommand) => unreachable!(),
-            Err(ParseError::OutOfMemory) => return Err(Stopped),
-        };
-        known = type_after(known, &command);
+    for command in commands {
         refused |= run_command(alloc, writer, &mut out, &mut array, command)?;
         write_pending(writer, &mut out)?;
     }
@@ -173,13 +161,18 @@ fn answer<W: Write>(alloc: Global, writer: &mut W, script: &[u8]) -> Result<u8, 
     ensures { IfOk result (λ status. WritesText (W.contents writer.old) (W.contents writer.new)
         (λ text. IsAnswer script.now text status)) }
 {
-    if let Some(number) = first_bad_line(script) {
-        let text = complaint(alloc, number)?;
-        writer.write_all(&text)?;
-        return Ok(2);
+    match commands_of(alloc, script) {
+        Ok(commands) => {
+            let refused = run_commands(alloc, writer, commands)?;
+            Ok(u8::from(refused))
+        }
+        Err(ScriptError::BadLine(number)) => {
+            let text = complaint(alloc, number)?;
+            writer.write_all(&text)?;
+            Ok(2)
+        }
+        Err(ScriptError::OutOfMemory) => Err(Stopped),
     }
-    let refused = run_lines(alloc, writer, script)?;
-    Ok(u8::from(refused))
 }
 
 /// Reads the whole script, and writes what it prints.

@@ -56,10 +56,10 @@ returns g c =
     let after = state_of_array open_state c.replay.new.self in
     puts_as (g.W.Write.contents c.args.writer.now) _ c.args.out.now.items _
     (call_served old.cell_type (layout_of_array old.array) (layout_of_array c.replay.new.self) (metadata_of_array old.array) (metadata_of_array c.replay.new.self) keep c.args.call c.in-Some.reply before after _
-    c.default-options.ensures.0 c.replay.ensures.layout kept.metadata c.in_ok-refused.ensures.refused
+    c.default-options.ensures.0 c.replay.ensures.layout kept.metadata c.is_refusal.ensures
     (one_reply (layout_of_array old.array) keep c.args.call c.pop.new.self.items c.in-Some.reply before after
     (subst (λ (replies : List Reply). Run (layout_of_array old.array) keep (c.args.call ∷ []) replies before after) c.in-Some.ensures.items (c.in_ok-replies.ensures.run.run (not_asked (encodes_partially c.default-options.result) (layout_of_array c.args.array.now.array) (open_state c.args.array.now.array.engine.storage) c.default-options.ensures.1)))))
-    c.in_ok-refused.ensures.text
+    c.in_ok-put_reply.ensures
 
 pub invariant_of-array-clause-typed : goal.invariant_of-array-clause-typed
 invariant_of-array-clause-typed g c =

@@ -1,10 +1,35 @@
-use Rattle.std.proofs.Common.{codes, refl}
+use Rattle.std.proofs.Common.{◌≡◌, ℕ, false, List, Option, None, codes, refl}
+use Rattle.zarrs_engine_calls.specs.declared.call.Call.{Call}
 use Rattle.zarrs.specs.Arrays.{metadata_of_array}
+use Rattle.zarrs_script.specs.declared.array.OpenArray.{OpenArray}
+use Rattle.zarrs_script.specs.declared.command.Creation.{Creation}
+use Rattle.zarrs_script.specs.declared.command.Command.{Command}
+use Rattle.zarrs_script.specs.declared.command.Command.TheVariants as command_of
+use Rattle.zarrs_script.specs.Parsed.{order_of_command}
 use Rattle.zarrs_script.specs.Parts.{text_of_metadata}
-use Rattle.zarrs_script.specs.Transcript.{line}
+use Rattle.zarrs_script.specs.Sessions.{session_of}
+use Rattle.zarrs_script.specs.Transcript.{Does, line}
 use Rattle.zarrs_script.proofs.Printing.{puts_as, puts_pending}
-use Rattle.zarrs_script.proofs.Transcripts.{array_opened, call_skipped, keys_skipped, keys_listed, meta_skipped, meta_shown}
+use Rattle.zarrs_script.proofs.Transcripts.{array_opened, command_skipped, keys_listed, meta_shown}
 use Rattle.zarrs_script.proofs.run.run_command.Goals as goal
+
+no_array : (asked : Call) (creation : Creation) → command_of.Call asked ≡ command_of.Array creation → ⊥
+no_array asked creation e = cc
+
+-- a call without an array
+call_skipped : (array : Option OpenArray) (command : Command) (asked : Call) (text : List ℕ) → None ≡ array → command ≡ command_of.Call asked → text ≡ line (codes "skipped")
+    → Does (session_of array) (order_of_command command) (record { text = text; refused = false; after = session_of array })
+call_skipped array command asked text absent is prints = rw is (command_skipped array (command_of.Call asked) text absent (no_array asked) prints)
+
+-- a `keys` line without an array
+keys_skipped : (array : Option OpenArray) (command : Command) (text : List ℕ) → None ≡ array → command ≡ command_of.Keys → text ≡ line (codes "skipped")
+    → Does (session_of array) (order_of_command command) (record { text = text; refused = false; after = session_of array })
+keys_skipped array command text absent is prints = rw (← absent, is, prints) refl
+
+-- a `meta` line without an array
+meta_skipped : (array : Option OpenArray) (command : Command) (text : List ℕ) → None ≡ array → command ≡ command_of.Meta → text ≡ line (codes "skipped")
+    → Does (session_of array) (order_of_command command) (record { text = text; refused = false; after = session_of array })
+meta_skipped array command text absent is prints = rw (← absent, is, prints) refl
 
 pub returns-in_ok-opening-in-Array-default : goal.returns-in_ok-opening-in-Array-default
 returns-in_ok-opening-in-Array-default g c =

@@ -1,8 +1,0 @@
-use Rattle.std.proofs.Common.{◌==◌, rules}
-use Rattle.std.proofs.lemmas.Iterator.Consumers.{count_from_yields_List}
-use Rattle.std.proofs.lemmas.Iterator.Splits.{YieldsList-from_slice_split}
-use Rattle.zarrs_script.proofs.check.item_count.Goals as goal
-
-pub returns : goal.returns
-returns c =
-    count_from_yields_List _ _ c.count.ensures.ran (YieldsList-from_slice_split _ (λ b. b == 44) c.args.word.now c.split.ensures.rest c.split.ensures.done c.split.ensures.closure (λ x b q h. search rules))
