@@ -9,6 +9,7 @@ use Rattle.zarrs_subset.specs.Regions.{Box, Holds, IsLong, LiesInBox, cell_in, i
 use Rattle.zarrs_subset.proofs.Bytes.{along_holds, holds_along, place_in_below}
 use Rattle.zarrs_subset.proofs.Inside.{count_inside}
 use Rattle.zarrs_chunk_grid.specs.Grids.{box_at}
+use Rattle.zarrs_chunk_grid.proofs.Chunks.{box_dimensions, box_long}
 use Rattle.zarrs_storage.specs.Store.{StoreState}
 use Rattle.zarrs_data_type.specs.Cell.{Cell}
 use Rattle.zarrs_data_type.specs.Kind.{cell_size}
@@ -214,7 +215,7 @@ first_filled layout shape index state held r = record {
 }
 
 -- after the last dimension the chunk is cut
-pub all_filled : (layout : Layout) (shape index : List ℕ) (state : StoreState) (made : ArrayData) → length shape ≡ length (box_at layout.grid index).start → IsLong (box_at layout.grid index)
+all_filled : (layout : Layout) (shape index : List ℕ) (state : StoreState) (made : ArrayData) → length shape ≡ length (box_at layout.grid index).start → IsLong (box_at layout.grid index)
     → HasFilled layout shape (box_at layout.grid index) state (length shape) made → HasCutCells layout shape index state made
 all_filled layout shape index state made same long h =
     let box = box_at layout.grid index in
@@ -246,3 +247,10 @@ pub filling_cut : (layout : Layout) (keep : Bool) (shape index : List ℕ) (stat
 filling_cut layout keep shape index state refusal.size_overflow large = (refl, inr (inl (inr (inr large))))
 filling_cut layout keep shape index state refusal.out_of_memory why = tt
 filling_cut layout keep shape index state r why = absurd why
+
+-- the same of a chunk of this box, after as many dimensions as the shape has
+pub cut_filled : (layout : Layout) (shape index : List ℕ) (state : StoreState) (box : Box) (made : ArrayData) (n : ℕ) → box ≡ box_at layout.grid index → n ≡ length shape → length shape ≡ layout.grid.dimensions
+    → HasFilled layout shape box state n made → HasCutCells layout shape index state made
+cut_filled layout shape index state box made n is all dimensions filled =
+    let whole = subst (λ (m : ℕ). HasFilled layout shape box state m made) all filled in
+    all_filled layout shape index state made (dimensions ∙ sym (box_dimensions layout.grid index)) (box_long layout.grid index) (subst (λ (b : Box). HasFilled layout shape b state (length shape) made) is whole)

@@ -10,6 +10,7 @@ use Rattle.zarrs_engine_calls.specs.Step.{RefusesCompactChunk}
 use Rattle.zarrs_engine_calls.proofs.RefusalLemmas.{makes_none, refused_first, refused_second, second_refusal}
 use Rattle.zarrs_engine_layout.specs.Steps.{RefusesPut, RefusesValue}
 use Rattle.zarrs_engine_layout.proofs.Chunks.{right_length}
+use Rattle.zarrs_engine.proofs.Encoded.{key_said}
 use Rattle.zarrs_engine.proofs.Writes.{refused_late}
 
 module _ (layout : Layout) (index : List ℕ) (long : length index ≡ layout.grid.dimensions) where
@@ -26,9 +27,7 @@ module _ (layout : Layout) (index : List ℕ) (long : length index ≡ layout.gr
   }
 
   pub key_refused : (state : StoreState) (r : Refusal) → RefusesValue layout index state r → RefusesCompactChunk layout index r state state
-  key_refused state r why =
-      let of_key = subst (λ (o : Option Refusal). RefusesBy o r) (second_refusal (length_refusal layout index) _ (right_length layout index long)) why in
-      uncalled state r (inl (refl, refused_first (key_refusal layout index state) _ r of_key))
+  key_refused state r why = uncalled state r (inl (refl, refused_first (key_refusal layout index state) _ r (key_said layout index long state r why)))
 
   module _ (encoded : List ℕ) (old : StoreState) (at : Some encoded ≡ value_at old (layout.key index)) where
     pub bytes_refused : (r : Refusal) → key_refusal layout index old ≡ None → RefusesBy (compaction_refusal layout index (Some encoded)) r → RefusesCompactChunk layout index r old old

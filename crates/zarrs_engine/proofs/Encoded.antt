@@ -9,9 +9,15 @@ use Rattle.zarrs_storage.specs.Store.{StoreState}
 use Rattle.zarrs_engine_calls.specs.Layout.{Layout}
 use Rattle.zarrs_engine_calls.specs.Content.{value_at}
 use Rattle.zarrs_engine_calls.specs.Refusals as refusal
-use Rattle.zarrs_engine_calls.specs.Refusals.{Refusal, RefusesBy, key_refusal}
-use Rattle.zarrs_engine_calls.proofs.RefusalLemmas.{memory_or_said}
+use Rattle.zarrs_engine_calls.specs.Refusals.{Refusal, RefusesBy, key_refusal, length_refusal}
+use Rattle.zarrs_engine_calls.proofs.RefusalLemmas.{memory_or_said, second_refusal}
+use Rattle.zarrs_engine_layout.specs.Steps.{RefusesValue}
+use Rattle.zarrs_engine_layout.proofs.Chunks.{right_length}
 use Rattle.zarrs_engine.specs.Encoded.{stored_values, RefusesEncoded}
+
+-- of indices of the right length a value is refused by its key
+pub key_said : (layout : Layout) (index : List ℕ) → length index ≡ layout.grid.dimensions → (state : StoreState) (r : Refusal) → RefusesValue layout index state r → RefusesBy (key_refusal layout index state) r
+key_said layout index long state r why = subst (λ (o : Option Refusal). RefusesBy o r) (second_refusal (length_refusal layout index) _ (right_length layout index long)) why
 
 module _ (layout : Layout) (state : StoreState) (chunks : List (List ℕ)) where
   -- the bytes of one more chunk

@@ -1,6 +1,6 @@
 -- Reads of regions, one chunk after another.
 use Rattle.std.proofs.Common.{◌≡◌, ◌≢◌, ◌<◌, ◌≤◌, ◌||◌, ◌&&◌, ℕ, Bool, true, false, cond, List, [], ◌∷◌, ◌++◌, length, replicate, slice_get, slice_index}
-use Rattle.std.proofs.Common.{get_or, Option, Some, None, IfNone, Contains, refl, sym, ◌∙◌, ap, subst, inl, inr, arith}
+use Rattle.std.proofs.Common.{get_or, Option, Some, None, IfNone, Result, Ok, Err, Contains, refl, sym, ◌∙◌, ap, subst, inl, inr, arith}
 use Rattle.std.specs.List.{list_any}
 use Rattle.std.specs.Str.{bytes_eq}
 use Rattle.std.proofs.lemmas.Bool.{cases_Bool, false≢true}
@@ -14,25 +14,32 @@ use Rattle.zarrs_subset.proofs.Overlaps.{in_box-overlap}
 use Rattle.zarrs_subset.proofs.Positions.{offset_from-in}
 use Rattle.zarrs_codec_shard.proofs.SubchunkBoxes.{place_in_chunk}
 use Rattle.zarrs_codec_chain.proofs.SubchunkSteps.{holds_seen, seen_again}
-use Rattle.zarrs_chunk_grid.specs.Grids.{box_at, index_at, is_covered, has_box}
+use Rattle.zarrs_chunk_grid.specs.Grids.{box_at, index_at, is_covered, has_box, met}
 use Rattle.zarrs_chunk_grid.proofs.Chunks.{box_is_there, box_index, box_covered, box_long}
 use Rattle.zarrs_subset.proofs.Inside.{holds_inside}
 use Rattle.zarrs_storage.specs.Store.{StoreState}
 use Rattle.zarrs_data_type.specs.Cell.{Cell}
-use Rattle.zarrs_data_type.specs.ArrayData.{ArrayData}
+use Rattle.zarrs_data_type_bytes.specs.declared.array_bytes.ArrayBytes.{ArrayBytes}
+use Rattle.zarrs_data_type.specs.ArrayData.{ArrayData, data_of}
 use Rattle.zarrs_data_type.specs.Cells.{cells}
 use Rattle.zarrs_data_type.specs.Parts.{TakesCells}
 use Rattle.zarrs_engine_calls.specs.Layout.{Layout, IsLawful}
 use Rattle.zarrs_engine_calls.specs.Content.{value_at, content, decoded_cells}
-use Rattle.zarrs_engine_calls.specs.ChunkBoxes.{CoversBox}
+use Rattle.zarrs_engine_calls.specs.ArgumentRefusals.{region_refusal}
+use Rattle.zarrs_engine_calls.specs.ChunkBoxes.{CoversBox, chunks_met}
 use Rattle.zarrs_engine_calls.specs.Fronts.{is_in_chunks}
 use Rattle.zarrs_engine_calls.specs.Reads.{IsBroken, ReadsRegion}
+use Rattle.zarrs_engine_calls.specs.Refusals.{refusal_of}
 use Rattle.zarrs_engine_calls.specs.StateRefusals.{IsPart}
+use Rattle.zarrs_engine_calls.specs.Step.{RetrievesRegion, RefusesRetrieveRegion}
+use Rattle.zarrs_engine_calls.specs.declared.error.ArrayError.{ArrayError}
 use Rattle.zarrs_engine_calls.proofs.Contents.{absent_fill, fill_at, in_chunk, only_member, reads_decoded, replicated, same_or_not}
 use Rattle.zarrs_engine_calls.proofs.Shapes.{known_decodes}
 use Rattle.zarrs_engine_layout.specs.Covers.{CoverRegion}
 use Rattle.zarrs_engine_layout.specs.Shared.{AreApart, AreShared}
-use Rattle.zarrs_engine.specs.RegionReads.{DecodesStored, HasRead, ReadsOneMore}
+use Rattle.zarrs_engine_layout.proofs.RegionRefusals.{region_read, region_refused_then}
+use Rattle.zarrs_engine.specs.Outcomes.{Reads}
+use Rattle.zarrs_engine.specs.RegionReads.{DecodesStored, HasRead, ReadsOneMore, ReadsOver}
 
 or_all : (b : Bool) → b || true ≡ true
 or_all true = refl
@@ -284,3 +291,15 @@ module _ (layout : Layout) (lawful : IsLawful layout) where
     covered = c.covered;
     whole = r.whole;
   }
+
+-- the read of a region over the chunks that it meets answers the call
+pub region_answered : (layout : Layout) (shape : List ℕ) (region : Box) (state : StoreState) (result : Result ArrayBytes ArrayError) → region_refusal layout shape region ≡ None
+    → ReadsOver layout region (chunks_met layout.grid region) state result → Reads (λ held. RetrievesRegion layout shape region held state) (λ r. RefusesRetrieveRegion layout shape region r state) result
+region_answered layout shape region state (Ok made) accepted r = record {
+  cells = region_read layout shape region (met layout.grid region) (data_of made) state accepted refl r.accepted r.read;
+  refused = tt;
+}
+region_answered layout shape region state (Err e) accepted r = record {
+  cells = tt;
+  refused = region_refused_then layout shape region (met layout.grid region) state (refusal_of e) accepted refl r.refused;
+}

@@ -1,11 +1,13 @@
 -- Chunks of two arrays, compared by the bytes that are stored.
-use Rattle.std.specs.Prelude.{◌≡◌, ◌≢◌, ◌⊎◌, ◌↔◌, ℕ, Bool, IsTrue, List, Contains}
+use Rattle.std.specs.Prelude.{◌≡◌, ◌≢◌, ◌⊎◌, ◌↔◌, ℕ, Bool, IsTrue, List, Contains, Result, IfOk, IfErr}
+use Rattle.std.specs.Bool.{OnFalse, OnTrue}
 use Rattle.zarrs_storage.specs.Store.{StoreState}
 use Rattle.zarrs_engine_calls.specs.Layout.{Layout}
 use Rattle.zarrs_engine_calls.specs.Canon.{IsCanonical}
 use Rattle.zarrs_engine_calls.specs.Content.{content, value_at}
 use Rattle.zarrs_engine_calls.specs.Laws.{AgreeOver, DifferInKeys}
-use Rattle.zarrs_engine_calls.specs.Refusals.{Refusal}
+use Rattle.zarrs_engine_calls.specs.Refusals.{Refusal, refusal_of}
+use Rattle.zarrs_engine_calls.specs.declared.error.ArrayError.{ArrayError}
 use Rattle.zarrs_engine.specs.Encoded.{RefusesEncoded}
 
 -- an array lies like `a` in the store `one`, another like `b` in `two`; these are indices of chunks
@@ -26,3 +28,10 @@ module _ (a b : Layout) (one two : StoreState) (chunks : List (List ℕ)) where
   abbrev pub ComparesContent : Bool → Type 0
   ComparesContent equal = DifferInKeys a b → IsCanonical a (value_at one) → IsCanonical b (value_at two)
       → IsTrue equal ↔ AgreeOver a.grid chunks (content a (value_at one)) (content b (value_at two))
+
+  -- it is answered whether the same bytes are stored, and so of what is read; or the comparison is refused
+  pub record ComparesOrRefuses (result : Result Bool ArrayError) : Type 0 where
+    pub equal : IfOk result (λ answer. OnTrue answer HoldSameChunks)
+    pub different : IfOk result (λ answer. OnFalse answer DifferInChunk)
+    pub content : IfOk result ComparesContent
+    pub refused : IfErr result (λ e. RefusesComparison (refusal_of e))

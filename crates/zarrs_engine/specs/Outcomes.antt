@@ -1,9 +1,12 @@
 -- What the calls of an engine end in: what was asked is done, or refused. Each is of the state before, the state after and
 -- the result. And what the store may be asked for a call: nothing where its indices, range, part or region is refused.
-use Rattle.std.specs.Prelude.{◌≡◌, ℕ, Bool, true, false, if◌then◌else◌, List, [], ◌∷◌, Option, None, option_map, Result, OnOk, IfOk, IfErr, IsErr}
+use Rattle.std.specs.Prelude.{◌≡◌, ℕ, Bool, true, false, if◌then◌else◌, List, [], ◌∷◌, Option, None, option_map, Result, OnOk, OnErr, IfOk, IfErr, IsErr}
+use Rattle.std.specs.declared.alloc.AllocError.{AllocError}
+use Rattle.std.specs.Prelude.{Vec}
+use Rattle.std.specs.declared.alloc.Global.{Global}
 use Rattle.std.specs.Option.{option_or}
 use Rattle.zarrs_subset.specs.Regions.{Box, positions}
-use Rattle.zarrs_storage.specs.Store.{StoreState}
+use Rattle.zarrs_storage.specs.Store.{KeepsRules, StoreState}
 use Rattle.zarrs_storage.specs.declared.error.StorageError.{StorageError}
 use Rattle.zarrs_chunk_grid.specs.declared.traits.ChunkGridTraits.{Ghosts as GridMeaning}
 use Rattle.zarrs_keys.specs.declared.traits.ChunkKeyEncodingTraits.{Ghosts as KeyMeaning}
@@ -25,7 +28,7 @@ use Rattle.zarrs_engine_calls.specs.Compactions.{CompactsChunk}
 use Rattle.zarrs_engine_calls.specs.Content.{value_at}
 use Rattle.zarrs_engine_calls.specs.StateRefusals.{RefusesChunkRead}
 use Rattle.zarrs_engine_calls.specs.Step.{StoresChunk, RefusesStoreChunk, ErasesChunk, RefusesEraseChunk, RefusesCompactChunk}
-use Rattle.zarrs_engine_calls.specs.Step.{StoresRegion, RefusesStoreRegion, Run, Step}
+use Rattle.zarrs_engine_calls.specs.Step.{StoresRegion, RefusesStoreRegion, ResizesArray, RefusesResize, Run, Step}
 use Rattle.zarrs_engine_calls.specs.Headline.{IsOneFunctionThrough}
 use Rattle.zarrs_engine_calls.specs.Laws.{EachDecodes}
 use Rattle.zarrs_engine_calls.specs.Layout.{ArrayState, Layout}
@@ -33,7 +36,7 @@ use Rattle.zarrs_engine_calls.specs.declared.call.Call.{Call}
 use Rattle.zarrs_engine_calls.specs.declared.call.Reply.{Reply}
 use Rattle.zarrs_engine_calls.specs.Patches.{EncodesPart, PatchRun, PatchStep, PatchesPart, PatchesRegion, RefusesEncodePart, RefusesPatchPart, RefusesPatchRegion, writes_parts}
 use Rattle.zarrs_engine_calls.specs.declared.error.ArrayError.{ArrayError}
-use Rattle.zarrs_engine.specs.Engine.{layout_of, store_of, state_of, KeepsLayout}
+use Rattle.zarrs_engine.specs.Engine.{layout_of, store_of, state_of, KeepsLayout, KeepsOthers}
 use Rattle.zarrs_engine.specs.declared.engine.Engine.{Engine}
 
 -- a read was made: it returns this data, or is refused
@@ -129,6 +132,16 @@ module _ {S G K C : Type 0} {g : GridMeaning G} {k : KeyMeaning K} {c : ChainMea
   abbrev pub ErasesChunksOrRefuses : (S → StoreState) → Box → Engine S G K C g k c → Engine S G K C g k c → Result (Unit {0}) StorageError → Type 0
   ErasesChunksOrRefuses state range old =
       WritesChunks refusal_of_storage state false (ErasesChunks (layout_of old) range) (RefusesEraseChunks (layout_of old) range) old
+
+  -- a change of the array's shape: it is done, and nothing but the store and the shape changed; or it is refused, and the shape stays
+  pub record ResizesOrRefuses (state : S → StoreState) (keep : Bool) (wanted : List ℕ) (old new : Engine S G K C g k c) (result : Result (Unit {0}) ArrayError) : Type 0 where
+    pub done : OnOk result (ResizesArray (layout_of old) keep (state_of state old).shape wanted (store_of state old) (store_of state new))
+    pub shape : OnOk result ((state_of state new).shape ≡ wanted)
+    pub refused : IfErr result (λ e. RefusesResize (layout_of old) keep (state_of state old).shape wanted (refusal_of e) (store_of state old) (store_of state new))
+    pub canonical : KeepsCanon (layout_of old) keep (store_of state old) (store_of state new)
+    pub layout : layout_of new ≡ layout_of old
+    pub others : KeepsOthers old new
+    pub layout_kept : OnErr result (KeepsLayout old new)
 
   -- A compaction of one chunk: it answers whether it wrote, or is refused, as it is where the store refuses the key. On a
   -- canonical store it writes nothing.
@@ -228,3 +241,15 @@ module _ {S G K C : Type 0} {g : GridMeaning G} {k : KeyMeaning K} {c : ChainMea
     pub whole : writes_parts (encodes_partially options) (layout_of old) (store_of state old) ≡ false
         → StoresRegionOrRefuses state (stores_empty_chunks options) region held old new result
     pub partly : PatchesRegionOrRefuses state (stores_empty_chunks options) (encodes_partially options) region held old new result
+
+  -- the calls were made in turn, and got these replies; or none was made, since the list of replies is out of memory. Nothing but the
+  -- store and the array's shape changed
+  pub record RepliesInTurn (state : S → StoreState) (options : CodecOptions) (calls : List Call) (old new : Engine S G K C g k c) (result : Result (Vec Reply Global) AllocError) : Type 0 where
+    pub run : IfOk result (λ replies. RunsAs (layout_of old) options calls replies.items (state_of state old) (state_of state new))
+    pub untouched : OnErr result (new ≡ old)
+    pub layout : layout_of new ≡ layout_of old
+    pub others : KeepsOthers old new
+    pub reach : KeepsRules (store_of state old) (store_of state new)
+    -- so it is if no part is written by itself
+    pub bytes : writes_parts (encodes_partially options) (layout_of old) (store_of state old) ≡ false
+        → KeepsBytes (layout_of old) (stores_empty_chunks options) (store_of state old) (store_of state new)

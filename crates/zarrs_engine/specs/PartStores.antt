@@ -1,5 +1,6 @@
 -- What a store of a region leaves in one chunk and in its chunks: a chunk is stored whole, or takes its part by itself.
-use Rattle.std.specs.Prelude.{◌≡◌, ℕ, Bool, true, false, List, [], ◌∷◌, Option, None, option_map, Result}
+use Rattle.std.specs.Prelude.{◌≡◌, ℕ, Bool, true, false, List, [], ◌∷◌, Option, None, option_map, Result, IfOk, IfErr, OnOk, Vec}
+use Rattle.std.specs.declared.alloc.Global.{Global}
 use Rattle.zarrs_subset.specs.Regions.{Box}
 use Rattle.zarrs_chunk_grid.specs.Grids.{box_at}
 use Rattle.zarrs_storage.specs.Store.{StoreState}
@@ -11,8 +12,8 @@ use Rattle.zarrs_data_type.specs.Cells.{cells}
 use Rattle.zarrs_engine_calls.specs.Layout.{Layout}
 use Rattle.zarrs_engine_calls.specs.Fronts.{StoresAll}
 use Rattle.zarrs_engine_calls.specs.Patches.{PatchesAll, RefusesPatches}
-use Rattle.zarrs_engine_calls.specs.Refusals.{data_refusal, refusal_of}
-use Rattle.zarrs_engine_calls.specs.StateRefusals.{IsPart}
+use Rattle.zarrs_engine_calls.specs.Refusals.{data_refusal, is_too_large, refusal_of}
+use Rattle.zarrs_engine_calls.specs.StateRefusals.{IsPart, RefusesPart}
 use Rattle.zarrs_engine_calls.specs.Step.{RefusesStore}
 use Rattle.zarrs_engine_calls.specs.declared.error.ArrayError.{ArrayError}
 use Rattle.zarrs_engine_layout.specs.Steps.{HasValue}
@@ -29,6 +30,13 @@ pub record IsPartValue (layout : Layout) (keep : Bool) (region : Box) (held : Ar
   pub updated : HasUpdated layout region held index state made
   pub accepted : data_refusal layout keep (box_at layout.grid index).shape (cells layout.kind made) ≡ None
   pub has : HasValue layout keep (box_at layout.grid index) made value
+
+-- so it was made of a chunk that is not too large, or the chunk does not take its part
+pub record MakesPartValue (layout : Layout) (keep : Bool) (region : Box) (held : ArrayData) (index : List ℕ) (state : StoreState)
+    (result : Result (Option (Vec ℕ Global)) ArrayError) : Type 0 where
+  pub value : IfOk result (λ made. IsPartValue layout keep region held index state (option_map (λ v. v.items) made))
+  pub fit : OnOk result (is_too_large layout (box_at layout.grid index).shape ≡ false)
+  pub refused : IfErr result (λ e. RefusesPart layout keep region held index 0 state (refusal_of e))
 
 -- the chunk takes its part by itself: parts are written so, and the region covers a part of it alone
 abbrev pub TakesItself : Layout → Bool → Box → List ℕ → Type 0

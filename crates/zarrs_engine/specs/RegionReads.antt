@@ -1,11 +1,12 @@
 -- What a read of a region has after some of its chunks.
-use Rattle.std.specs.Prelude.{◌≡◌, ℕ, ◌++◌, List, [], ◌∷◌, length, Some, Contains, Result, IfErr, IfOk, if◌then◌else◌}
+use Rattle.std.specs.Prelude.{◌≡◌, ℕ, ◌++◌, List, [], ◌∷◌, length, None, Some, Contains, Result, IfErr, IfOk, OnOk, if◌then◌else◌}
 use Rattle.zarrs_chunk_grid.specs.Grids.{box_at}
 use Rattle.zarrs_subset.specs.Boxes.{position_count}
 use Rattle.zarrs_subset.specs.Regions.{Box, Holds, IsLong, cell_in, seen_from, LiesInBox}
 use Rattle.zarrs_storage.specs.Store.{StoreState}
 use Rattle.zarrs_data_type.specs.Cell.{Cell}
-use Rattle.zarrs_data_type.specs.ArrayData.{ArrayData}
+use Rattle.zarrs_data_type_bytes.specs.declared.array_bytes.ArrayBytes.{ArrayBytes}
+use Rattle.zarrs_data_type.specs.ArrayData.{ArrayData, data_of}
 use Rattle.zarrs_data_type.specs.Cells.{cells}
 use Rattle.zarrs_data_type.specs.RegionData.{region_data}
 use Rattle.zarrs_data_type_region.specs.declared.region_cells.RegionCells.{RegionCells}
@@ -14,9 +15,12 @@ use Rattle.zarrs_codec_chain.specs.Parts.{DecodesPart}
 use Rattle.zarrs_engine_calls.specs.Content.{value_at, content, decoded_cells}
 use Rattle.zarrs_engine_calls.specs.ChunkBoxes.{CoversBox}
 use Rattle.zarrs_engine_calls.specs.Fronts.{is_in_chunks}
-use Rattle.zarrs_engine_calls.specs.Reads.{IsBroken}
+use Rattle.zarrs_engine_calls.specs.ArgumentRefusals.{size_refusal}
+use Rattle.zarrs_engine_calls.specs.Reach.{MayReadParts}
+use Rattle.zarrs_engine_calls.specs.Reads.{IsBroken, ReadsRegion}
 use Rattle.zarrs_engine_calls.specs.Refusals.{refusal_of}
-use Rattle.zarrs_engine_calls.specs.StateRefusals.{IsPart, RefusesSomeChunk}
+use Rattle.zarrs_engine_calls.specs.StateRefusals.{IsPart, RefusesRegionRead, RefusesSomeChunk}
+use Rattle.zarrs_engine_layout.specs.Covers.{CoverRegion}
 use Rattle.zarrs_engine_calls.specs.declared.error.ArrayError.{ArrayError}
 
 -- The data is one cell for each position of the region: in these chunks the content, wherever there is one, and else fill.
@@ -53,3 +57,14 @@ pub record IsRegionOf (layout : Layout) (index : List ℕ) (part region : Box) :
   pub lies : LiesInBox region (box_at layout.grid index)
   pub seen : part ≡ seen_from region (box_at layout.grid index).start
   pub proper : IsPart layout region index
+
+-- these chunks cover the region, and may be asked for their parts of it
+pub record MayReadOver (layout : Layout) (region : Box) (chunks : List (List ℕ)) (state : StoreState) : Type 0 where
+  pub cover : CoverRegion layout.grid region chunks
+  pub ask : MayReadParts layout region chunks state
+
+-- the region, which these chunks cover, was read, or the read is refused: first for its size
+pub record ReadsOver (layout : Layout) (region : Box) (chunks : List (List ℕ)) (state : StoreState) (result : Result ArrayBytes ArrayError) : Type 0 where
+  pub read : IfOk result (λ made. ReadsRegion layout region chunks (data_of made) state)
+  pub accepted : OnOk result (size_refusal layout region.shape ≡ None)
+  pub refused : IfErr result (λ e. RefusesRegionRead layout (size_refusal layout region.shape) region chunks state (refusal_of e))

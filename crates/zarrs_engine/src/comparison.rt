@@ -1,11 +1,10 @@
 //! Arrays that are compared by the bytes of their chunks.
 ghost use Rattle.std.specs.Prelude.{◌≡◌, ◌↔◌, ◌⊎◌, IfOk, IfErr, IsTrue, length};
-ghost use Rattle.std.specs.Bool.{OnFalse, OnTrue};
 ghost use Rattle.zarrs_subset.specs.Regions.{box_of, positions};
 ghost use Rattle.zarrs_engine_calls.specs.Content.{value_at};
 ghost use Rattle.zarrs_engine_calls.specs.Reach.{MayAskChunk, MayAskChunks};
 ghost use Rattle.zarrs_engine_calls.specs.Refusals.{RefusesBy, key_refusal, refusal_of};
-ghost use Rattle.zarrs_engine.specs.Comparisons.{ComparesContent, DifferInChunk, HoldSameChunks, RefusesComparison};
+ghost use Rattle.zarrs_engine.specs.Comparisons.{ComparesOrRefuses};
 ghost use Rattle.zarrs_engine.specs.Engine.{layout_of, store_of};
 
 use crate::engine::Engine;
@@ -46,18 +45,8 @@ pub fn chunks_equal<
         (store_of S1.state a.now) }
     requires ask_b { MayAskChunks (layout_of b.now) (positions (box_of chunks.now))
         (store_of S2.state b.now) }
-    ensures equal { IfOk result (λ equal. OnTrue equal (HoldSameChunks (layout_of a.now)
-        (layout_of b.now) (store_of S1.state a.now) (store_of S2.state b.now)
-        (positions (box_of chunks.now)))) }
-    ensures different { IfOk result (λ equal. OnFalse equal (DifferInChunk (layout_of a.now)
-        (layout_of b.now) (store_of S1.state a.now) (store_of S2.state b.now)
-        (positions (box_of chunks.now)))) }
-    ensures content { IfOk result (λ equal. ComparesContent (layout_of a.now) (layout_of b.now)
-        (store_of S1.state a.now) (store_of S2.state b.now) (positions (box_of chunks.now))
-        equal) }
-    ensures refused { IfErr result (λ e. RefusesComparison (layout_of a.now) (layout_of b.now)
-        (store_of S1.state a.now) (store_of S2.state b.now) (positions (box_of chunks.now))
-        (refusal_of e)) }
+    ensures { ComparesOrRefuses (layout_of a.now) (layout_of b.now) (store_of S1.state a.now)
+        (store_of S2.state b.now) (positions (box_of chunks.now)) result }
 {
     if chunks.num_elements().is_err() {
         return Err(ArrayError::SizeOverflow);

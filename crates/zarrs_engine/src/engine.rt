@@ -1,9 +1,6 @@
 //! An engine: a store, and the layout that says what its values mean.
 mod calls;
-mod compactions;
-mod encoded;
 mod into;
-mod part_reads;
 mod partial_writes;
 mod reads;
 mod region_lists;

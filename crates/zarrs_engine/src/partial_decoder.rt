@@ -65,15 +65,14 @@ impl<
     K: ChunkKeyEncodingTraits,
     C: ChainTraits,
 > ChunkPartialDecoder<'_, S, G, K, C> {
-    ghost use Rattle.std.specs.Prelude.{◌≡◌, ◌↔◌, true, None, IfOk, IfErr, IsTrue, OnOk};
+    ghost use Rattle.std.specs.Prelude.{◌≡◌, ◌↔◌, true, IfOk, IfErr, IsTrue};
     ghost use Rattle.zarrs_subset.specs.Regions.{box_of};
-    ghost use Rattle.zarrs_data_type.specs.ArrayData.{data_of};
     ghost use Rattle.zarrs_engine_calls.specs.ArgumentRefusals.{part_refusal};
     ghost use Rattle.zarrs_engine_calls.specs.Changes.{IsPresent};
     ghost use Rattle.zarrs_engine_calls.specs.Refusals.{RefusesBy, key_refusal, refusal_of};
-    ghost use Rattle.zarrs_engine_calls.specs.Step.{RetrievesPart, RefusesRetrievePart};
     ghost use Rattle.zarrs_engine.specs.Engine.{layout_of, state_of, store_of};
-    ghost use Rattle.zarrs_engine.specs.Outcomes.{MayRetrievePart};
+    ghost use Rattle.zarrs_engine_layout.specs.Answers.{Answers};
+    ghost use Rattle.zarrs_engine.specs.Outcomes.{MayRetrievePart, RetrievesPartOrRefuses};
     ghost use Rattle.zarrs_engine.specs.PartialDecoders.{engine_of, indices_of};
     ghost use Rattle.zarrs_engine.specs.PartialDecoders.{DecodesPartInto, region_of_part};
 
@@ -91,12 +90,8 @@ impl<
     ) -> Result<ArrayBytes<'static>, ArrayError>
         requires { MayRetrievePart S.state (indices_of self.now) (box_of chunk_subset.now)
             (engine_of self.now) }
-        ensures cells { IfOk result (λ made. RetrievesPart (layout_of (engine_of self.now))
-            (indices_of self.now) (box_of chunk_subset.now) (data_of made)
-            (store_of S.state (engine_of self.now))) }
-        ensures refused { IfErr result (λ e. RefusesRetrievePart (layout_of (engine_of self.now))
-            (indices_of self.now) (box_of chunk_subset.now) (refusal_of e)
-            (store_of S.state (engine_of self.now))) }
+        ensures { RetrievesPartOrRefuses S.state (indices_of self.now) (box_of chunk_subset.now)
+            (engine_of self.now) result }
     {
         self.engine
             .retrieve_chunk_subset(alloc, &self.chunk_indices, chunk_subset)
@@ -139,13 +134,10 @@ impl<
         alloc: Global,
         chunk_subset: &ArraySubset,
     ) -> Result<ArraySubset, ArrayError>
-        ensures region { IfOk result (λ region. box_of region ≡ region_of_part
-            (layout_of (engine_of self.now)) (indices_of self.now) (box_of chunk_subset.now)) }
-        ensures accepted { OnOk result (part_refusal (layout_of (engine_of self.now))
-            (indices_of self.now) (box_of chunk_subset.now) ≡ None) }
-        ensures refused { IfErr result (λ e. RefusesBy (part_refusal
+        ensures { Answers (part_refusal (layout_of (engine_of self.now)) (indices_of self.now)
+            (box_of chunk_subset.now)) (λ region. box_of region ≡ region_of_part
             (layout_of (engine_of self.now)) (indices_of self.now) (box_of chunk_subset.now))
-            (refusal_of e)) }
+            result }
     {
         let layout = self.engine.layout();
         let chunk = layout.chunk_box(alloc, &self.chunk_indices)?;

@@ -134,6 +134,14 @@ range_first layout shape range = option_or (dimensions_refusal layout shape rang
 dimensions_accepted : (layout : Layout) (shape : List ℕ) (range : Box) → length range.start ≡ layout.grid.dimensions → dimensions_refusal layout shape range ≡ None
 dimensions_accepted layout shape range dimensions = ap (λ b. refuse_if (not b) (refusal.array_subset range shape)) (eq-eqb _ _ dimensions)
 
+-- an empty range fills the empty region, and is not refused
+pub filled_none : (layout : Layout) (shape : List ℕ) (range : Box) → IsLong range → length range.start ≡ layout.grid.dimensions → is_empty range ≡ true
+    → (empty_box (length range.start) ≡ chunks_box layout.grid range) × (range_first layout shape range ≡ None)
+filled_none layout shape range long dimensions empty = (
+  ap empty_box long ∙ sym (ap (λ b. cond b (empty_box (length range.shape)) (range_box layout.grid range)) empty),
+  second_refusal (dimensions_refusal layout shape range) _ (dimensions_accepted layout shape range dimensions) ∙ ap (λ b. cond b None (range_refusal layout range)) empty,
+)
+
 module _ (layout : Layout) (shape : List ℕ) (range : Box) (dimensions : length range.start ≡ layout.grid.dimensions) (some : HasIndices range) where
   first_is : range_first layout shape range ≡ range_refusal layout range
   first_is =

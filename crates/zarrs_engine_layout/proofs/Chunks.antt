@@ -1,6 +1,8 @@
 -- Calls of one chunk, from what their parts ensure.
 use Rattle.std.proofs.Common.{◌≡◌, ◌≢◌, ◌⊎◌, ◌*◌, ◌^◌, ℕ, Bool, true, false, not, cond, nat_le, List, length, Option, Some, None, is_some}
-use Rattle.std.proofs.Common.{replicate, ◌==◌, eq-eqb, IfOk, OnOk, Result, Ok, Err, refl, sym, ◌∙◌, ap, subst, inl, inr}
+use Rattle.std.proofs.Common.{replicate, ◌==◌, eq-eqb, IfOk, OnOk, Result, Ok, Err, option_map, refl, sym, ◌∙◌, ap, subst, inl, inr}
+use Rattle.std.specs.Prelude.{Vec}
+use Rattle.std.specs.declared.alloc.Global.{Global}
 use Rattle.std.specs.Option.{option_or}
 use Rattle.std.proofs.lemmas.Bool.{cases_Bool}
 use Rattle.std.proofs.lemmas.Map.Views.{exact_unsigned_eq}
@@ -32,9 +34,9 @@ use Rattle.zarrs_engine_calls.specs.Refusals.{fill_refusal, is_too_large, read_r
 use Rattle.zarrs_engine_calls.specs.Changes.{IsValueOf, RetrievesChunk, RetrievesIfExists}
 use Rattle.zarrs_engine_calls.specs.Reads.{IsBroken}
 use Rattle.zarrs_engine_calls.specs.StateRefusals.{NeedsLargeFill, RefusesChunkRead}
-use Rattle.zarrs_engine_layout.specs.Steps.{HasValue, RefusesBytes, RefusesIndices, RefusesValue}
+use Rattle.zarrs_engine_layout.specs.Steps.{HasValue, MakesValue, RefusesBytes, RefusesIndices, RefusesValue}
 use Rattle.zarrs_engine_calls.proofs.Contents.{reads_decoded, reads_absent}
-use Rattle.zarrs_engine_calls.proofs.RefusalLemmas.{refusal_moved, first_refusal, refused_first, second_refusal, box_accepted, fit_chunk, memory_or_said}
+use Rattle.zarrs_engine_calls.proofs.RefusalLemmas.{refusal_moved, first_refusal, refused_first, refused_second, second_refusal, box_accepted, fit_chunk, memory_or_said}
 
 -- what holds of each answer, by a fact that goes with any
 pub both_ok : {T E : Type 0} (r : Result T E) (P R : T → Type 0) (Q : Type 0) → ((x : T) → Q → P x → R x) → OnOk r Q → IfOk r P → IfOk r R
@@ -117,9 +119,14 @@ pub refused_either : (a b : Option Refusal) (r : Refusal) → RefusesBy (option_
 refused_either None b r h = inr (refl, h)
 refused_either (Some x) b r h = inl h
 
+-- neither of two refusals comes
+pub both_accepted : (a b : Option Refusal) → option_or a b ≡ None → (a ≡ None) × (b ≡ None)
+both_accepted None b h = (refl, h)
+both_accepted (Some x) b h = absurd (cc)
+
 -- what is to be present at a key goes by the shape of the chunk
-pub value_moved : (layout : Layout) (keep : Bool) (a b : Box) (held : ArrayData) (value : Option (List ℕ)) → a.shape ≡ b.shape → HasValue layout keep a held value → HasValue layout keep b held value
-value_moved layout keep a b held value same h = record {
+has_moved : (layout : Layout) (keep : Bool) (a b : Box) (held : ArrayData) (value : Option (List ℕ)) → a.shape ≡ b.shape → HasValue layout keep a held value → HasValue layout keep b held value
+has_moved layout keep a b held value same h = record {
   chunk = h.chunk;
   is_chunk = h.is_chunk;
   count = h.count ∙ ap position_count same;
@@ -129,6 +136,20 @@ value_moved layout keep a b held value same h = record {
     moved : (v : Option (List ℕ)) → IsValueOf layout keep a h.chunk v → IsValueOf layout keep b h.chunk v
     moved None is = is
     moved (Some encoded) is = (is.0, ap (λ s. encoded_cells layout keep s h.chunk) (sym same) ∙ is.1)
+
+-- the same of what a step made, where nothing that comes first refuses it
+pub value_moved : (layout : Layout) (keep : Bool) (first : Option Refusal) (a b : Box) (held : ArrayData) (result : Result (Option (Vec ℕ Global)) ArrayError) → a.shape ≡ b.shape → first ≡ None
+    → MakesValue layout keep None a held result → MakesValue layout keep first b held result
+value_moved layout keep first a b held (Ok value) same none h = record {
+  answer = has_moved layout keep a b held (option_map (λ v. v.items) value) same h.answer;
+  accepted = second_refusal first (data_refusal layout keep b.shape (cells layout.kind held)) none ∙ subst (λ s. data_refusal layout keep s (cells layout.kind held) ≡ None) same h.accepted;
+  refused = tt;
+}
+value_moved layout keep first a b held (Err e) same none h = record {
+  answer = tt;
+  accepted = tt;
+  refused = refused_second first (data_refusal layout keep b.shape (cells layout.kind held)) (refusal_of e) none (subst (λ s. RefusesBy (data_refusal layout keep s (cells layout.kind held)) (refusal_of e)) same h.refused);
+}
 
 -- the first of two refusals is the first of three
 refusal_more : (a b c : Option Refusal) (x : Refusal) → option_or a b ≡ Some x → option_or a (option_or b c) ≡ Some x

@@ -1,6 +1,6 @@
 -- Regions that are one chunk, and the cells of a region's data.
 use Rattle.std.proofs.Common.{◌≡◌, ◌↔◌, ◌==◌, ◌&&◌, ◌<◌, ◌*◌, not, ℕ, zero, suc, Bool, true, false, cond, List, [], ◌∷◌, length, map, slice_index}
-use Rattle.std.proofs.Common.{IsTrue, refl, sym, ◌∙◌, ap, subst, inl, inr, arith}
+use Rattle.std.proofs.Common.{IsTrue, replicate, refl, sym, ◌∙◌, ap, subst, inl, inr, arith}
 use Rattle.std.specs.List.{SomeIndex, flat_map, range_with_len}
 use Rattle.std.proofs.lemmas.List.{append-nil}
 use Rattle.std.specs.Str.{bytes_eq}
@@ -8,11 +8,12 @@ use Rattle.std.proofs.lemmas.Bool.{and_from, and_parts, cases_Bool, eq-eqb, fals
 use Rattle.std.proofs.lemmas.Slice.Eq.{bytes_eq-Decides}
 use Rattle.std.proofs.lemmas.List.Folds.{list_any_at}
 use Rattle.zarrs_subset.specs.Boxes.{position_count, positions_from}
-use Rattle.zarrs_subset.specs.Regions.{Box, Holds, IsLong, box_eq, box_from, empty_box, LiesInBox}
+use Rattle.zarrs_subset.specs.Regions.{Box, Holds, IsLong, box_eq, box_from, empty_box, positions, LiesInBox}
 use Rattle.zarrs_subset.proofs.Bytes.{along_holds, holds_along}
 use Rattle.zarrs_chunk_grid.specs.Grids.{Grid, IsGrid, box_at, each_dimension, extent_along, first_met, amount_met, has_box, index_at, met}
 use Rattle.zarrs_chunk_grid.proofs.Chunks.{box_is_there, box_long, box_dimensions, covered_holds}
-use Rattle.zarrs_chunk_grid.proofs.MetChunks.{at_dimension}
+use Rattle.zarrs_chunk_grid.proofs.MetChunks.{MetAt, at_dimension, met_from_walk, walk_is_met}
+use Rattle.zarrs_chunk_grid.proofs.Walks.{PairsBelow}
 use Rattle.zarrs_data_type.specs.Kind.{kind}
 use Rattle.zarrs_data_type.specs.ArrayData.{ArrayData}
 use Rattle.zarrs_data_type.specs.Cells.{HasCells, count_of}
@@ -22,8 +23,9 @@ use Rattle.zarrs_data_type_bytes.proofs.Cells.{HasCells-parts, count_of-fits}
 use Rattle.zarrs_engine_calls.specs.ChunkBoxes.{CoversBox, is_empty, is_one_chunk, last_of}
 use Rattle.zarrs_engine_calls.proofs.Contents.{only_member}
 use Rattle.zarrs_engine_calls.proofs.Covers.{last_at, last_held, some_extent}
-use Rattle.zarrs_engine_layout.specs.Covers.{CoverRegion}
-use Rattle.zarrs_engine_layout.proofs.RegionRefusals.{no_extent}
+use Rattle.zarrs_engine_calls.specs.Layout.{Layout, IsLawful}
+use Rattle.zarrs_engine_layout.specs.Covers.{CoverRegion, IsInChunk}
+use Rattle.zarrs_engine_layout.proofs.RegionRefusals.{no_extent, region_accepted, region_cover}
 
 -- ---- empty boxes
 
@@ -170,6 +172,28 @@ only_position (s ∷ start) (e ∷ shape) long one =
     ap (λ n. flat_map (λ i. map (λ p. i ∷ p) (positions_from start shape)) (range_with_len s n)) parts.0
     ∙ append-nil (map (λ p. s ∷ p) (positions_from start shape))
     ∙ ap (map (λ p. s ∷ p)) (only_position start shape (omega arith) parts.1)
+
+ones : (n : ℕ) → position_count (replicate n 1) ≡ 1
+ones zero = refl
+ones (suc n) = ap (λ c. 1 * c) (ones n)
+
+-- a region that meets one chunk along each dimension lies in that one
+pub only_chunk_met : (layout : Layout) → IsLawful layout → (shape : List ℕ) (region : Box) → IsLong region → length region.start ≡ layout.grid.dimensions
+    → (SomeIndex region.shape (λ k. slice_index region.shape k ≡ 0) → ⊥) → (index : List ℕ) (n : ℕ) → n ≡ layout.grid.dimensions
+    → PairsBelow (MetAt layout.grid region) index (replicate n 1) n → IsInChunk layout shape region index
+only_chunk_met layout lawful shape region long dimensions filled index n all walk =
+    let box = box_from index (replicate n 1) in
+    let box_long : IsLong box = walk.start_long ∙ sym walk.shape_long in
+    let is_met = met_from_walk layout.grid lawful.grid region dimensions index (replicate n 1) n (omega arith) (omega arith) walk in
+    let some : (k : ℕ) → k < length region.shape → 0 < slice_index region.shape k = λ k below. (let here : slice_index region.shape k ≡ 0 → ⊥ = λ z. filled (k, below, z) in omega arith) in
+    let is : box ≡ met layout.grid region = walk_is_met layout.grid lawful.grid region dimensions index (replicate n 1) n (omega arith) (omega arith) walk (sym long) some in
+    let only : positions box ≡ index ∷ [] = only_position index (replicate n 1) box_long (ones n) in
+    record {
+      some = not_empty region filled;
+      accepted = region_accepted layout lawful shape region long box box_long dimensions is_met;
+      met = ap positions (sym is) ∙ only;
+      cover = subst (λ (l : List (List ℕ)). CoverRegion layout.grid region l) only (region_cover layout lawful shape region long box box_long dimensions is_met);
+    }
 
 -- ---- the cells of data
 

@@ -1,7 +1,6 @@
 //! The parts of an array beside its store, and what they say of one chunk.
 ghost use Rattle.std.specs.Prelude.{◌≡◌};
 ghost use Rattle.zarrs_subset.specs.Boxes.{position_count};
-ghost use Rattle.zarrs_subset.specs.Regions.{box_of};
 ghost use Rattle.zarrs_data_type.specs.Kind.{kind};
 ghost use Rattle.zarrs_engine_calls.specs.Layout.{IsLawful, layout_at};
 ghost use Rattle.zarrs_engine_layout.specs.Steps.{RefusesIndices};
@@ -48,25 +47,24 @@ pub struct Chunk<'a> {
 }
 
 impl<G: ChunkGridTraits, K: ChunkKeyEncodingTraits, C: ChainTraits> ArrayLayout<G, K, C> {
-    ghost use Rattle.std.specs.Prelude.{◌≡◌, ◌<◌, ◌*◌, ◌^◌, true, false, Some, None};
-    ghost use Rattle.std.specs.Prelude.{Bool, List, ℕ, option_map, replicate};
-    ghost use Rattle.std.specs.Option.{option_or};
+    ghost use Rattle.std.specs.Prelude.{◌≡◌, ◌<◌, true, Some, None};
+    ghost use Rattle.std.specs.Prelude.{Bool, List, ℕ};
     ghost use Rattle.zarrs_subset.specs.Regions.{box_at_origin};
-    ghost use Rattle.std.specs.Prelude.{IfOk, IfErr, OnOk, IfSome, IfNone, OnSome, IsSome, IsSomeAnd};
+    ghost use Rattle.std.specs.Prelude.{IfOk, IfErr, OnOk, IsSome, IsSomeAnd};
     ghost use Rattle.std.specs.Prelude.{IsOkUnless};
     ghost use Rattle.zarrs_chunk_grid.specs.Grids.{box_at};
-    ghost use Rattle.zarrs_data_type.specs.Kind.{cell_size};
     ghost use Rattle.zarrs_data_type.specs.ArrayData.{data_of};
     ghost use Rattle.zarrs_data_type.specs.Cells.{cells, HasCells};
     ghost use Rattle.zarrs_codec_chain.specs.Options.{stores_empty_chunks};
-    ghost use Rattle.zarrs_engine_layout.specs.Chunks.{IsChunk};
+    ghost use Rattle.zarrs_engine_layout.specs.Answers.{Answers};
+    ghost use Rattle.zarrs_engine_layout.specs.Chunks.{IsChunkAt};
     ghost use Rattle.zarrs_engine_layout.specs.Layouts.{layout_meaning};
     ghost use Rattle.zarrs_engine_calls.specs.Content.{decoded_cells};
     ghost use Rattle.zarrs_engine_calls.specs.ArgumentRefusals.{chunk_refusal};
-    ghost use Rattle.zarrs_engine_calls.specs.Refusals.{RefusesBy, refusal_of, is_too_large};
+    ghost use Rattle.zarrs_engine_calls.specs.Refusals.{refusal_of};
     ghost use Rattle.zarrs_engine_calls.specs.Refusals.{box_refusal, data_refusal, read_refusal};
     ghost use Rattle.zarrs_engine_calls.specs.Refusals.{is_left_out};
-    ghost use Rattle.zarrs_engine_layout.specs.Steps.{HasValue, RefusesBytes};
+    ghost use Rattle.zarrs_engine_layout.specs.Steps.{IsFill, MakesValue, RefusesBytes};
 
     /// Returns the key of the chunk with these indices.
     ///
@@ -80,17 +78,6 @@ impl<G: ChunkGridTraits, K: ChunkKeyEncodingTraits, C: ChainTraits> ArrayLayout<
         chunk_key(alloc, &self.path, &self.keys, chunk_indices)
     }
 
-    /// Returns the number of cells of a chunk of this box, or `None` if they have more bytes than a `usize` counts.
-    pub fn cell_count(&self, region: &ArraySubset) -> Option<u64>
-        ensures some { IfSome result (λ count. count ≡ position_count (box_of region.now).shape) }
-        ensures small { OnSome result
-            (is_too_large (layout_meaning self.now) (box_of region.now).shape ≡ false) }
-        ensures large { IfNone result
-            (is_too_large (layout_meaning self.now) (box_of region.now).shape ≡ true) }
-    {
-        self.shape_count(region.shape())
-    }
-
     /// Returns the chunk with these indices.
     ///
     /// # Errors
@@ -101,13 +88,8 @@ impl<G: ChunkGridTraits, K: ChunkKeyEncodingTraits, C: ChainTraits> ArrayLayout<
         alloc: Global,
         chunk_indices: &'a [u64],
     ) -> Result<Chunk<'a>, ArrayError>
-        ensures chunk { IfOk result (λ chunk. IsChunk (layout_meaning self.now) chunk) }
-        ensures indices { IfOk result (λ chunk. chunk.indices.now ≡ chunk_indices.now) }
-        ensures accepted { OnOk result
-            (chunk_refusal (layout_meaning self.now) chunk_indices.now ≡ None) }
-        ensures refused { IfErr result
-            (λ e. RefusesBy (chunk_refusal (layout_meaning self.now) chunk_indices.now)
-            (refusal_of e)) }
+        ensures { Answers (chunk_refusal (layout_meaning self.now) chunk_indices.now)
+            (IsChunkAt (layout_meaning self.now) chunk_indices.now) result }
     {
         let region = self.chunk_box(alloc, chunk_indices)?;
         let key = self.chunk_key(alloc, chunk_indices)?;
@@ -116,35 +98,6 @@ impl<G: ChunkGridTraits, K: ChunkKeyEncodingTraits, C: ChainTraits> ArrayLayout<
             key,
             region,
         })
-    }
-
-    /// Returns what is to be present at the key of the chunk with these cells: their bytes, or nothing if empty chunks are
-    /// not kept and each cell is the fill value's.
-    ///
-    /// # Errors
-    /// In this order: E4 if the chain does not take the chunk; E8 if the bytes pass a size. E9 may come at any time.
-    pub fn value_of(
-        &self,
-        alloc: Global,
-        chunk: &Chunk<'_>,
-        chunk_data: &ArrayBytes<'_>,
-        options: &CodecOptions,
-    ) -> Result<Option<Vec<u8>>, ArrayError>
-        requires { HasCells (layout_meaning self.now).kind (data_of chunk_data.now)
-            (position_count (box_of chunk.now.region).shape) }
-        ensures value { IfOk result
-            (λ value. HasValue (layout_meaning self.now) (stores_empty_chunks options.now)
-            (box_of chunk.now.region) (data_of chunk_data.now) (option_map (λ v. v.items) value)) }
-        ensures accepted { OnOk result
-            (data_refusal (layout_meaning self.now) (stores_empty_chunks options.now)
-            (box_of chunk.now.region).shape
-            (cells (layout_meaning self.now).kind (data_of chunk_data.now)) ≡ None) }
-        ensures refused { IfErr result
-            (λ e. RefusesBy (data_refusal (layout_meaning self.now)
-            (stores_empty_chunks options.now) (box_of chunk.now.region).shape
-            (cells (layout_meaning self.now).kind (data_of chunk_data.now))) (refusal_of e)) }
-    {
-        self.value_in(alloc, chunk.region.shape(), chunk_data, options)
     }
 
     /// Returns what `value_of` returns for the chunk with these indices, of data that may be no cells of it.
@@ -159,33 +112,22 @@ impl<G: ChunkGridTraits, K: ChunkKeyEncodingTraits, C: ChainTraits> ArrayLayout<
         chunk_data: &ArrayBytes<'_>,
         options: &CodecOptions,
     ) -> Result<Option<Vec<u8>>, ArrayError>
-        ensures value { IfOk result
-            (λ value. HasValue (layout_meaning self.now) (stores_empty_chunks options.now)
-            (box_at (G.grid self.now.grid) chunk_indices.now) (data_of chunk_data.now)
-            (option_map (λ v. v.items) value)) }
-        ensures boxed { OnOk result (box_refusal (layout_meaning self.now) chunk_indices.now
-            ≡ None) }
-        ensures accepted { OnOk result
-            (data_refusal (layout_meaning self.now) (stores_empty_chunks options.now)
-            (box_at (G.grid self.now.grid) chunk_indices.now).shape
-            (cells (layout_meaning self.now).kind (data_of chunk_data.now)) ≡ None) }
-        ensures refused { IfErr result (λ e. RefusesBy (option_or
+        ensures { MakesValue (layout_meaning self.now) (stores_empty_chunks options.now)
             (box_refusal (layout_meaning self.now) chunk_indices.now)
-            (data_refusal (layout_meaning self.now) (stores_empty_chunks options.now)
-            (box_at (G.grid self.now.grid) chunk_indices.now).shape
-            (cells (layout_meaning self.now).kind (data_of chunk_data.now)))) (refusal_of e)) }
+            (box_at (G.grid self.now.grid) chunk_indices.now) (data_of chunk_data.now) result }
     {
         let chunk = self.chunk_extents(alloc, chunk_indices)?;
         self.check_count(chunk.count, chunk_data)?;
-        self.value_in(alloc, chunk.shape.as_slice(), chunk_data, options)
+        self.value_of(alloc, chunk.shape.as_slice(), chunk_data, options)
     }
 
-    /// Returns what `value_of` returns for a chunk of this shape.
+    /// Returns what is to be present at the key of a chunk of this shape with these cells: their bytes, or nothing if
+    /// empty chunks are not kept and each cell is the fill value's.
     ///
     /// # Errors
-    /// Those of `value_of`.
+    /// In this order: E4 if the chain does not take the chunk; E8 if the bytes pass a size. E9 may come at any time.
     #[inline(always)]
-    fn value_in(
+    pub fn value_of(
         &self,
         alloc: Global,
         shape: &[u64],
@@ -194,16 +136,8 @@ impl<G: ChunkGridTraits, K: ChunkKeyEncodingTraits, C: ChainTraits> ArrayLayout<
     ) -> Result<Option<Vec<u8>>, ArrayError>
         requires { HasCells (layout_meaning self.now).kind (data_of chunk_data.now)
             (position_count shape.now) }
-        ensures value { IfOk result
-            (λ value. HasValue (layout_meaning self.now) (stores_empty_chunks options.now)
-            (box_at_origin shape.now) (data_of chunk_data.now) (option_map (λ v. v.items) value)) }
-        ensures accepted { OnOk result
-            (data_refusal (layout_meaning self.now) (stores_empty_chunks options.now) shape.now
-            (cells (layout_meaning self.now).kind (data_of chunk_data.now)) ≡ None) }
-        ensures refused { IfErr result
-            (λ e. RefusesBy (data_refusal (layout_meaning self.now)
-            (stores_empty_chunks options.now) shape.now
-            (cells (layout_meaning self.now).kind (data_of chunk_data.now))) (refusal_of e)) }
+        ensures { MakesValue (layout_meaning self.now) (stores_empty_chunks options.now) None
+            (box_at_origin shape.now) (data_of chunk_data.now) result }
     {
         if self.leaves_out(chunk_data, options) {
             return Ok(None);
@@ -224,31 +158,21 @@ impl<G: ChunkGridTraits, K: ChunkKeyEncodingTraits, C: ChainTraits> ArrayLayout<
     pub fn value_of_owned(
         &self,
         alloc: Global,
-        chunk: &Chunk<'_>,
+        shape: &[u64],
         chunk_data: ArrayBytes<'_>,
         options: &CodecOptions,
     ) -> Result<Option<Vec<u8>>, ArrayError>
         requires { HasCells (layout_meaning self.now).kind (data_of chunk_data)
-            (position_count (box_of chunk.now.region).shape) }
-        ensures value { IfOk result
-            (λ value. HasValue (layout_meaning self.now) (stores_empty_chunks options.now)
-            (box_of chunk.now.region) (data_of chunk_data.entry)
-            (option_map (λ v. v.items) value)) }
-        ensures accepted { OnOk result
-            (data_refusal (layout_meaning self.now) (stores_empty_chunks options.now)
-            (box_of chunk.now.region).shape
-            (cells (layout_meaning self.now).kind (data_of chunk_data.entry)) ≡ None) }
-        ensures refused { IfErr result
-            (λ e. RefusesBy (data_refusal (layout_meaning self.now)
-            (stores_empty_chunks options.now) (box_of chunk.now.region).shape
-            (cells (layout_meaning self.now).kind (data_of chunk_data.entry))) (refusal_of e)) }
+            (position_count shape.now) }
+        ensures { MakesValue (layout_meaning self.now) (stores_empty_chunks options.now) None
+            (box_at_origin shape.now) (data_of chunk_data.entry) result }
     {
         if self.leaves_out(&chunk_data, options) {
             return Ok(None);
         }
         let chunk = ChunkType {
             cell_type: &self.cell_type,
-            shape: chunk.region.shape(),
+            shape,
         };
         let encoded = self.chain.encode_owned(alloc, chunk_data, &chunk, options)?;
         Ok(Some(encoded))
@@ -331,15 +255,10 @@ impl<G: ChunkGridTraits, K: ChunkKeyEncodingTraits, C: ChainTraits> ArrayLayout<
         alloc: Global,
         chunk_indices: &[u64],
     ) -> Result<ArrayBytes<'static>, ArrayError>
-        ensures cells { IfOk result (λ made. cells (layout_meaning self.now).kind (data_of made)
-            ≡ Some (replicate
+        ensures { Answers (read_refusal (layout_meaning self.now) true chunk_indices.now None)
+            (λ made. IsFill (layout_meaning self.now)
             (position_count (box_at (G.grid self.now.grid) chunk_indices.now).shape)
-            (layout_meaning self.now).fill)) }
-        ensures accepted { OnOk result
-            (read_refusal (layout_meaning self.now) true chunk_indices.now None ≡ None) }
-        ensures refused { IfErr result
-            (λ e. RefusesBy (read_refusal (layout_meaning self.now) true chunk_indices.now None)
-            (refusal_of e)) }
+            (data_of made)) result }
     {
         let chunk = self.chunk_extents(alloc, chunk_indices)?;
         self.fill_cells(alloc, chunk.count)

@@ -8,29 +8,25 @@ use zarrs_keys::ChunkKeyEncodingTraits;
 use zarrs_subset::{ArraySubset, ArraySubsetTraits};
 
 impl<G: ChunkGridTraits, K: ChunkKeyEncodingTraits, C: ChainTraits> ArrayLayout<G, K, C> {
-    ghost use Rattle.std.specs.Prelude.{◌≡◌, if◌then◌else◌, false, None, IfOk, IfErr, OnOk};
+    ghost use Rattle.std.specs.Prelude.{◌≡◌, if◌then◌else◌, false, None};
     ghost use Rattle.std.specs.Option.{option_or};
-    ghost use Rattle.zarrs_subset.specs.Regions.{LiesInShape, box_of, positions};
-    ghost use Rattle.zarrs_chunk_grid.specs.Grids.{box_at, chunks_box, has_box};
+    ghost use Rattle.zarrs_subset.specs.Regions.{LiesInShape, box_of};
+    ghost use Rattle.zarrs_chunk_grid.specs.Grids.{box_at, has_box};
     ghost use Rattle.zarrs_engine_calls.specs.ArgumentRefusals.{chunk_refusal, dimensions_refusal};
     ghost use Rattle.zarrs_engine_calls.specs.ArgumentRefusals.{part_refusal, range_refusal};
     ghost use Rattle.zarrs_engine_calls.specs.ChunkBoxes.{is_empty, last_of, part_box};
     ghost use Rattle.zarrs_engine_calls.specs.Refusals.{RefusesBy, refusal_of};
     ghost use Rattle.zarrs_engine_layout.specs.Layouts.{layout_meaning};
-    ghost use Rattle.zarrs_engine_layout.specs.Covers.{CoverRegion};
+    ghost use Rattle.zarrs_engine_layout.specs.Answers.{Answers};
+    ghost use Rattle.zarrs_engine_layout.specs.Covers.{IsFilledBy};
 
     /// Returns the box of the chunk with these indices.
     ///
     /// # Errors
     /// E3 for another number of indices than dimensions, or indices without a chunk. E9 may come at any time.
     pub fn chunk_box(&self, alloc: Global, chunk_indices: &[u64]) -> Result<ArraySubset, ArrayError>
-        ensures region { IfOk result
-            (λ b. box_of b ≡ box_at (G.grid self.now.grid) chunk_indices.now) }
-        ensures accepted { OnOk result
-            (chunk_refusal (layout_meaning self.now) chunk_indices.now ≡ None) }
-        ensures refused { IfErr result
-            (λ e. RefusesBy (chunk_refusal (layout_meaning self.now) chunk_indices.now)
-            (refusal_of e)) }
+        ensures { Answers (chunk_refusal (layout_meaning self.now) chunk_indices.now)
+            (λ b. box_of b ≡ box_at (G.grid self.now.grid) chunk_indices.now) result }
     {
         match self.grid.subset(alloc, chunk_indices) {
             Ok(Some(chunk)) => Ok(chunk),
@@ -55,11 +51,8 @@ impl<G: ChunkGridTraits, K: ChunkKeyEncodingTraits, C: ChainTraits> ArrayLayout<
         part: &ArraySubset,
     ) -> Result<(), ArrayError>
         requires { extents.now ≡ (box_at (G.grid self.now.grid) chunk_indices.now).shape }
-        ensures accepted { OnOk result
-            (part_refusal (layout_meaning self.now) chunk_indices.now (box_of part.now) ≡ None) }
-        ensures inside { OnOk result (LiesInShape (box_of part.now) extents.now) }
-        ensures refused { IfErr result (λ e. RefusesBy (part_refusal (layout_meaning self.now)
-            chunk_indices.now (box_of part.now)) (refusal_of e)) }
+        ensures { Answers (part_refusal (layout_meaning self.now) chunk_indices.now
+            (box_of part.now)) (λ _. LiesInShape (box_of part.now) extents.now) result }
     {
         if !part.inbounds_shape(extents) {
             return Err(invalid_part(alloc, chunk_indices, extents, part));
@@ -79,11 +72,9 @@ impl<G: ChunkGridTraits, K: ChunkKeyEncodingTraits, C: ChainTraits> ArrayLayout<
         part: &ArraySubset,
     ) -> Result<ArraySubset, ArrayError>
         requires { box_of chunk.now ≡ box_at (G.grid self.now.grid) chunk_indices.now }
-        ensures part { IfOk result (λ b. box_of b ≡ part_box (box_of chunk.now) (box_of part.now)) }
-        ensures accepted { OnOk result
-            (part_refusal (layout_meaning self.now) chunk_indices.now (box_of part.now) ≡ None) }
-        ensures refused { IfErr result (λ e. RefusesBy (part_refusal (layout_meaning self.now)
-            chunk_indices.now (box_of part.now)) (refusal_of e)) }
+        ensures { Answers (part_refusal (layout_meaning self.now) chunk_indices.now
+            (box_of part.now)) (λ b. box_of b ≡ part_box (box_of chunk.now) (box_of part.now))
+            result }
     {
         self.check_part(alloc, chunk_indices, chunk.shape(), part)?;
         let region = part.shifted_by(alloc, chunk.start())?;
@@ -100,18 +91,11 @@ impl<G: ChunkGridTraits, K: ChunkKeyEncodingTraits, C: ChainTraits> ArrayLayout<
         alloc: Global,
         chunks: &ArraySubset,
     ) -> Result<ArraySubset, ArrayError>
-        ensures region { IfOk result
-            (λ b. box_of b ≡ chunks_box (G.grid self.now.grid) (box_of chunks.now)) }
-        ensures cover { IfOk result (λ b. CoverRegion (G.grid self.now.grid) (box_of b)
-            (positions (box_of chunks.now))) }
-        ensures accepted { OnOk result (option_or (dimensions_refusal (layout_meaning self.now)
+        ensures { Answers (option_or (dimensions_refusal (layout_meaning self.now)
             (G.array_extents self.now.grid) (box_of chunks.now))
             (if is_empty (box_of chunks.now) then None
-            else range_refusal (layout_meaning self.now) (box_of chunks.now)) ≡ None) }
-        ensures refused { IfErr result (λ e. RefusesBy (option_or
-            (dimensions_refusal (layout_meaning self.now) (G.array_extents self.now.grid)
-            (box_of chunks.now)) (if is_empty (box_of chunks.now) then None
-            else range_refusal (layout_meaning self.now) (box_of chunks.now))) (refusal_of e)) }
+            else range_refusal (layout_meaning self.now) (box_of chunks.now)))
+            (λ b. IsFilledBy (G.grid self.now.grid) (box_of chunks.now) (box_of b)) result }
     {
         if chunks.dimensionality() != self.grid.dimensionality() {
             return Err(self.invalid_region(alloc, chunks));

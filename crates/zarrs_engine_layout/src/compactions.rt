@@ -7,9 +7,9 @@ use zarrs_engine_calls::ArrayError;
 use zarrs_keys::ChunkKeyEncodingTraits;
 
 impl<G: ChunkGridTraits, K: ChunkKeyEncodingTraits, C: ChainTraits> ArrayLayout<G, K, C> {
-    ghost use Rattle.std.specs.Prelude.{◌≡◌, Some, None, IfOk, IfErr, OnOk, option_map};
+    ghost use Rattle.std.specs.Prelude.{◌≡◌, Some, option_map};
     ghost use Rattle.zarrs_engine_calls.specs.Compactions.{compacted_bytes, compaction_refusal};
-    ghost use Rattle.zarrs_engine_calls.specs.Refusals.{RefusesBy, refusal_of};
+    ghost use Rattle.zarrs_engine_layout.specs.Answers.{Answers};
     ghost use Rattle.zarrs_engine_layout.specs.Layouts.{layout_meaning};
 
     /// Returns the compaction of the bytes of the chunk with these indices, or `None` if they are compact.
@@ -23,16 +23,12 @@ impl<G: ChunkGridTraits, K: ChunkKeyEncodingTraits, C: ChainTraits> ArrayLayout<
         chunk_indices: &[u64],
         encoded: &[u8],
     ) -> Result<Option<Vec<u8>>, ArrayError>
-        ensures less { IfOk result (λ less.
-            compacted_bytes (layout_meaning self.now) chunk_indices.now encoded.now
-            ≡ Some (option_map (λ v. v.items) less)) }
-        ensures accepted { OnOk result (compaction_refusal (layout_meaning self.now)
-            chunk_indices.now (Some encoded.now) ≡ None) }
-        ensures refused { IfErr result (λ e. RefusesBy (compaction_refusal
-            (layout_meaning self.now) chunk_indices.now (Some encoded.now)) (refusal_of e)) }
+        ensures { Answers (compaction_refusal (layout_meaning self.now) chunk_indices.now
+            (Some encoded.now)) (λ less. compacted_bytes (layout_meaning self.now)
+            chunk_indices.now encoded.now ≡ Some (option_map (λ v. v.items) less)) result }
     {
-        let chunk = self.chunk_box(alloc, chunk_indices)?;
-        let less = self.chain.compact(alloc, encoded, chunk.shape())?;
+        let shape = self.chunk_shape(alloc, chunk_indices)?;
+        let less = self.chain.compact(alloc, encoded, shape.as_slice())?;
         Ok(less)
     }
 }

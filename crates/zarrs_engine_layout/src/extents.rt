@@ -22,10 +22,11 @@ pub struct ChunkExtents {
 }
 
 impl<G: ChunkGridTraits, K: ChunkKeyEncodingTraits, C: ChainTraits> ArrayLayout<G, K, C> {
-    ghost use Rattle.std.specs.Prelude.{true, false, None, IfOk, IfErr, OnOk, IfSome, IfNone, OnSome};
+    ghost use Rattle.std.specs.Prelude.{true, false, None, IfSome, IfNone, OnSome};
     ghost use Rattle.zarrs_chunk_grid.specs.Grids.{box_at};
     ghost use Rattle.zarrs_engine_calls.specs.ArgumentRefusals.{chunk_refusal};
-    ghost use Rattle.zarrs_engine_calls.specs.Refusals.{RefusesBy, box_refusal, is_too_large, refusal_of};
+    ghost use Rattle.zarrs_engine_calls.specs.Refusals.{box_refusal, is_too_large};
+    ghost use Rattle.zarrs_engine_layout.specs.Answers.{Answers};
     ghost use Rattle.zarrs_engine_layout.specs.Layouts.{layout_meaning};
 
     /// Returns the number of cells of a chunk of this shape, or `None` if they have more bytes than a `usize` counts.
@@ -56,13 +57,9 @@ impl<G: ChunkGridTraits, K: ChunkKeyEncodingTraits, C: ChainTraits> ArrayLayout<
         alloc: Global,
         chunk_indices: &[u64],
     ) -> Result<ChunkExtents, ArrayError>
-        ensures shape { IfOk result (λ chunk. chunk.shape.items
-            ≡ (box_at (G.grid self.now.grid) chunk_indices.now).shape) }
-        ensures accepted { OnOk result (box_refusal (layout_meaning self.now) chunk_indices.now
-            ≡ None) }
-        ensures refused { IfErr result
-            (λ e. RefusesBy (box_refusal (layout_meaning self.now) chunk_indices.now)
-            (refusal_of e)) }
+        ensures { Answers (box_refusal (layout_meaning self.now) chunk_indices.now)
+            (λ chunk. chunk.shape.items ≡ (box_at (G.grid self.now.grid) chunk_indices.now).shape)
+            result }
     {
         let shape = self.chunk_shape(alloc, chunk_indices)?;
         match self.shape_count(shape.as_slice()) {
@@ -81,13 +78,9 @@ impl<G: ChunkGridTraits, K: ChunkKeyEncodingTraits, C: ChainTraits> ArrayLayout<
         alloc: Global,
         chunk_indices: &[u64],
     ) -> Result<SmallVec<u64, 4>, ArrayError>
-        ensures shape { IfOk result (λ shape. shape.items
-            ≡ (box_at (G.grid self.now.grid) chunk_indices.now).shape) }
-        ensures accepted { OnOk result
-            (chunk_refusal (layout_meaning self.now) chunk_indices.now ≡ None) }
-        ensures refused { IfErr result
-            (λ e. RefusesBy (chunk_refusal (layout_meaning self.now) chunk_indices.now)
-            (refusal_of e)) }
+        ensures { Answers (chunk_refusal (layout_meaning self.now) chunk_indices.now)
+            (λ shape. shape.items ≡ (box_at (G.grid self.now.grid) chunk_indices.now).shape)
+            result }
     {
         if chunk_indices.len() != self.grid.dimensionality() {
             return Err(invalid_indices(alloc, chunk_indices));

@@ -10,11 +10,9 @@ use zarrs_keys::ChunkKeyEncodingTraits;
 use zarrs_subset::ArraySubset;
 
 impl<G: ChunkGridTraits, K: ChunkKeyEncodingTraits, C: ChainTraits> ArrayLayout<G, K, C> {
-    ghost use Rattle.std.specs.Prelude.{◌≡◌, ◌<◌, ◌*◌, ◌^◌, ℕ, true, false, IfOk, IfErr, OnOk};
-    ghost use Rattle.zarrs_subset.specs.Boxes.{position_count};
+    ghost use Rattle.std.specs.Prelude.{◌≡◌, ◌<◌, ℕ, true, false, IfOk, IfErr, OnOk};
     ghost use Rattle.zarrs_subset.specs.Regions.{box_at_origin, box_of, LiesInShape};
     ghost use Rattle.zarrs_data_type.specs.ArrayData.{data_of};
-    ghost use Rattle.zarrs_data_type.specs.Cell.{held_size};
     ghost use Rattle.zarrs_data_type.specs.States.{KeepsTarget, data_of_target};
     ghost use Rattle.zarrs_data_type.specs.States.{parent_box, target_box};
     ghost use Rattle.zarrs_data_type.specs.Targets.{takes_type};

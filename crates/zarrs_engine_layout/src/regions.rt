@@ -1,28 +1,31 @@
 //! Regions of an array: the chunks that they meet, and the data over them.
 use crate::array_layout::ArrayLayout;
-use std::alloc::Global;
+use smallvec::SmallVec;
+use std::alloc::{AllocError, Global};
 use zarrs_chunk_grid::{ChunkGridTraits, GridError};
 use zarrs_codec_chain::ChainTraits;
 use zarrs_codec_leaf::{CodecError, Misfit};
 use zarrs_data_type::{ArrayBytes, CellType};
 use zarrs_engine_calls::ArrayError;
 use zarrs_keys::ChunkKeyEncodingTraits;
-use zarrs_subset::ArraySubset;
+use zarrs_subset::{ArraySubset, ArraySubsetTraits};
 
 impl<G: ChunkGridTraits, K: ChunkKeyEncodingTraits, C: ChainTraits> ArrayLayout<G, K, C> {
-    ghost use Rattle.std.specs.Prelude.{◌≡◌, ◌↔◌, Some, None, IfOk, IfErr, IsTrue, OnOk, replicate};
+    ghost use Rattle.std.specs.Prelude.{◌≡◌, ◌↔◌, ◌*◌, ◌<◌, ◌^◌, Some, None, IfOk, IfErr, IfSome, IsTrue, OnOk};
     ghost use Rattle.zarrs_subset.specs.Boxes.{position_count};
     ghost use Rattle.zarrs_subset.specs.Regions.{box_of, positions};
     ghost use Rattle.zarrs_chunk_grid.specs.Grids.{met};
     ghost use Rattle.zarrs_data_type.specs.ArrayData.{data_of};
-    ghost use Rattle.zarrs_data_type.specs.Cells.{HasCells, cells, count_of};
+    ghost use Rattle.zarrs_data_type.specs.Kind.{cell_size};
+    ghost use Rattle.zarrs_data_type.specs.Cells.{HasCells, count_of};
     ghost use Rattle.zarrs_engine_calls.specs.ArgumentRefusals.{box_data_refusal};
-    ghost use Rattle.zarrs_engine_calls.specs.ArgumentRefusals.{region_refusal};
+    ghost use Rattle.zarrs_engine_calls.specs.ArgumentRefusals.{region_refusal, size_refusal};
     ghost use Rattle.zarrs_engine_calls.specs.ChunkBoxes.{is_one_chunk};
     ghost use Rattle.zarrs_engine_calls.specs.Refusals.{RefusesBy, array_subset, refusal_of};
     ghost use Rattle.zarrs_engine_layout.specs.Layouts.{layout_meaning};
-    ghost use Rattle.zarrs_engine_layout.specs.Covers.{CoverRegion};
-    ghost use Rattle.zarrs_engine_layout.specs.Steps.{filled_refusal, fills_refusal};
+    ghost use Rattle.zarrs_engine_layout.specs.Answers.{Answers};
+    ghost use Rattle.zarrs_engine_layout.specs.Covers.{AreMetBy, CoverRegion, IsInChunk};
+    ghost use Rattle.zarrs_engine_layout.specs.Steps.{IsFill, filled_refusal, fills_refusal};
 
     /// Returns the refusal of this region: E1, or out of memory.
     pub fn invalid_region(&self, alloc: Global, region: &ArraySubset) -> ArrayError
@@ -43,14 +46,10 @@ impl<G: ChunkGridTraits, K: ChunkKeyEncodingTraits, C: ChainTraits> ArrayLayout<
     /// # Errors
     /// E1 for another number of dimensions, or a position that no chunk covers. E9 may come at any time.
     pub fn chunks_met(&self, alloc: Global, region: &ArraySubset) -> Result<ArraySubset, ArrayError>
-        ensures chunks { IfOk result
-            (λ chunks. box_of chunks ≡ met (G.grid self.now.grid) (box_of region.now)) }
-        ensures cover { IfOk result (λ chunks. CoverRegion (G.grid self.now.grid)
-            (box_of region.now) (positions (box_of chunks))) }
-        ensures accepted { OnOk result (region_refusal (layout_meaning self.now)
-            (G.array_extents self.now.grid) (box_of region.now) ≡ None) }
-        ensures refused { IfErr result (λ e. RefusesBy (region_refusal (layout_meaning self.now)
-            (G.array_extents self.now.grid) (box_of region.now)) (refusal_of e)) }
+        ensures { Answers (region_refusal (layout_meaning self.now)
+            (G.array_extents self.now.grid) (box_of region.now))
+            (λ chunks. AreMetBy (G.grid self.now.grid) (box_of region.now) (box_of chunks))
+            result }
     {
         match self.grid.chunks_in_array_subset(alloc, region) {
             Ok(Some(chunks)) => Ok(chunks),
@@ -63,6 +62,57 @@ impl<G: ChunkGridTraits, K: ChunkKeyEncodingTraits, C: ChainTraits> ArrayLayout<
         }
     }
 
+    /// Returns the indices of the chunk that all of the region lies in. `None` if it lies in no single one, or is empty.
+    ///
+    /// # Errors
+    /// `AllocError`: out of memory.
+    pub fn only_chunk(
+        &self,
+        alloc: Global,
+        region: &ArraySubset,
+    ) -> Result<Option<SmallVec<u64, 4>>, AllocError>
+        ensures { IfOk result (λ found. IfSome found (λ index. IsInChunk (layout_meaning self.now)
+            (G.array_extents self.now.grid) (box_of region.now) index.items)) }
+    {
+        let dimensions = self.grid.dimensionality();
+        if region.dimensionality() != dimensions {
+            return Ok(None);
+        }
+        if region.is_empty() {
+            return Ok(None);
+        }
+        let mut indices = SmallVec::new(alloc);
+        for dimension in 0..dimensions {
+            let range = region.range(dimension);
+            let Some(numbers) = self
+                .grid
+                .numbers_met(dimension, range.start, range.end - range.start)
+            else {
+                return Ok(None);
+            };
+            if numbers.amount != 1 {
+                return Ok(None);
+            }
+            indices.push(numbers.first)?;
+        }
+        Ok(Some(indices))
+    }
+
+    /// Returns how many cells the region has.
+    ///
+    /// # Errors
+    /// E8 for cells of more bytes than a `usize` counts.
+    pub fn cell_count(&self, region: &ArraySubset) -> Result<u64, ArrayError>
+        ensures { Answers (size_refusal (layout_meaning self.now) (box_of region.now).shape)
+            (λ count. (count ≡ position_count (box_of region.now).shape)
+            × (count * cell_size (layout_meaning self.now).kind < 2 ^ 64)) result }
+    {
+        match self.shape_count(region.shape()) {
+            Some(count) => Ok(count),
+            None => Err(ArrayError::SizeOverflow),
+        }
+    }
+
     /// Returns the cells of the region if each is the fill value's.
     ///
     /// # Errors
@@ -72,15 +122,11 @@ impl<G: ChunkGridTraits, K: ChunkKeyEncodingTraits, C: ChainTraits> ArrayLayout<
         alloc: Global,
         region: &ArraySubset,
     ) -> Result<ArrayBytes<'static>, ArrayError>
-        ensures cells { IfOk result (λ made. cells (layout_meaning self.now).kind (data_of made)
-            ≡ Some (replicate (position_count (box_of region.now).shape)
-            (layout_meaning self.now).fill)) }
-        ensures accepted { OnOk result
-            (filled_refusal (layout_meaning self.now) (box_of region.now).shape ≡ None) }
-        ensures refused { IfErr result (λ e. RefusesBy (filled_refusal
-            (layout_meaning self.now) (box_of region.now).shape) (refusal_of e)) }
+        ensures { Answers (filled_refusal (layout_meaning self.now) (box_of region.now).shape)
+            (λ made. IsFill (layout_meaning self.now) (position_count (box_of region.now).shape)
+            (data_of made)) result }
     {
-        match self.cell_count(region) {
+        match self.shape_count(region.shape()) {
             Some(count) => self.fill_cells(alloc, count),
             None => Err(ArrayError::SizeOverflow),
         }
@@ -96,11 +142,8 @@ impl<G: ChunkGridTraits, K: ChunkKeyEncodingTraits, C: ChainTraits> ArrayLayout<
         alloc: Global,
         count: u64,
     ) -> Result<ArrayBytes<'static>, ArrayError>
-        ensures cells { IfOk result (λ made. cells (layout_meaning self.now).kind (data_of made)
-            ≡ Some (replicate count (layout_meaning self.now).fill)) }
-        ensures accepted { OnOk result (fills_refusal (layout_meaning self.now) count ≡ None) }
-        ensures refused { IfErr result
-            (λ e. RefusesBy (fills_refusal (layout_meaning self.now) count) (refusal_of e)) }
+        ensures { Answers (fills_refusal (layout_meaning self.now) count)
+            (λ made. IsFill (layout_meaning self.now) count (data_of made)) result }
     {
         let CellType {
             data_type,
@@ -182,7 +225,7 @@ impl<G: ChunkGridTraits, K: ChunkKeyEncodingTraits, C: ChainTraits> ArrayLayout<
         ensures refused { IfErr result (λ e. box_data_refusal (layout_meaning self.now) is_whole
             (box_of region.now).shape (data_of region_data.now) ≡ Some (refusal_of e)) }
     {
-        if is_whole && self.cell_count(region).is_none() {
+        if is_whole && self.shape_count(region.shape()).is_none() {
             return Err(ArrayError::SizeOverflow);
         }
         if self.has_cells(region, region_data) {

@@ -1,7 +1,7 @@
 //! What a region and a chunk share.
 ghost use Rattle.std.specs.Prelude.{◌≡◌, ◌↔◌, true, IfNone, IfOk, IfSome, IsTrue, length};
 ghost use Rattle.zarrs_chunk_grid.specs.Grids.{box_at, has_box};
-ghost use Rattle.zarrs_subset.specs.Regions.{LiesInBox, box_of, overlap_of, seen_from};
+ghost use Rattle.zarrs_subset.specs.Regions.{LiesInBox, box_of, overlap_of};
 ghost use Rattle.zarrs_engine_layout.specs.Shared.{AreApart, AreShared, IsSharedIn};
 
 use std::alloc::{AllocError, Global};

@@ -1,12 +1,9 @@
 //! Lists of calls.
-ghost use Rattle.std.specs.Prelude.{◌≡◌, false, IfOk, IfErr, OnOk, OnErr};
-ghost use Rattle.zarrs_codec_chain.specs.Options.{encodes_partially, stores_empty_chunks};
-ghost use Rattle.zarrs_storage.specs.Store.{KeepsRules};
+ghost use Rattle.std.specs.Prelude.{◌≡◌, IfOk, IfErr, OnOk};
 ghost use Rattle.zarrs_engine_calls.specs.Reach.{MayAskCalls};
-ghost use Rattle.zarrs_engine_calls.specs.Patches.{writes_parts};
 ghost use Rattle.zarrs_engine_calls.specs.declared.call.Reply.TheVariants.{Done, Cells, Refused};
-ghost use Rattle.zarrs_engine.specs.Engine.{layout_of, store_of, state_of, KeepsOthers};
-ghost use Rattle.zarrs_engine.specs.Outcomes.{KeepsBytes, RunsAs};
+ghost use Rattle.zarrs_engine.specs.Engine.{layout_of, state_of};
+ghost use Rattle.zarrs_engine.specs.Outcomes.{RepliesInTurn};
 
 use super::Engine;
 use std::alloc::{AllocError, Global};
@@ -35,17 +32,7 @@ pub fn replay<
     options: &CodecOptions,
 ) -> Result<Vec<Reply>, AllocError>
     requires { MayAskCalls (layout_of engine.old) calls.now (state_of S.state engine.old) }
-    ensures run { IfOk result (λ replies. RunsAs (layout_of engine.old) options.now calls.now
-        replies.items (state_of S.state engine.old) (state_of S.state engine.new)) }
-    ensures untouched { OnErr result (engine.new ≡ engine.old) }
-    ensures layout { layout_of engine.new ≡ layout_of engine.old }
-    ensures others { KeepsOthers engine.old engine.new }
-    ensures reach { KeepsRules (store_of S.state engine.old) (store_of S.state engine.new) }
-    // So it is if no part is written by itself.
-    ensures bytes { writes_parts (encodes_partially options.now) (layout_of engine.old)
-        (store_of S.state engine.old) ≡ false → KeepsBytes (layout_of engine.old)
-        (stores_empty_chunks options.now) (store_of S.state engine.old)
-        (store_of S.state engine.new) }
+    ensures { RepliesInTurn S.state options.now calls.now engine.old engine.new result }
 {
     let mut replies = Vec::with_capacity(alloc, calls.len())?;
     for call in calls {

@@ -17,13 +17,11 @@ impl<
     K: ChunkKeyEncodingTraits,
     C: ChainTraits,
 > Engine<S, G, K, C> {
-    ghost use Rattle.std.specs.Prelude.{◌≡◌, ◌∷◌, [], true, IfErr, None, OnOk, length};
+    ghost use Rattle.std.specs.Prelude.{◌≡◌, [], true, IfErr, None, OnOk, length};
     ghost use Rattle.zarrs_chunk_grid.specs.Grids.{box_at, has_box};
-    ghost use Rattle.zarrs_engine_layout.specs.Covers.{CoverRegion};
     ghost use Rattle.zarrs_subset.specs.Regions.{LiesInBox, box_of, positions};
     ghost use Rattle.zarrs_engine_calls.specs.Content.{value_at};
     ghost use Rattle.zarrs_engine_calls.specs.Reach.{MayAskChunk, MayDecodePart, MayReadPart};
-    ghost use Rattle.zarrs_engine_calls.specs.Reach.{MayReadParts};
     ghost use Rattle.zarrs_engine_calls.specs.ChunkBoxes.{chunk_part};
     ghost use Rattle.zarrs_engine_calls.specs.Refusals.{RefusesBy, refusal_of};
     ghost use Rattle.zarrs_engine_calls.specs.StateRefusals.{IsPart, RefusesSomeChunk};
@@ -32,6 +30,7 @@ impl<
     ghost use Rattle.zarrs_engine.specs.Engine.{layout_of, store_of};
     ghost use Rattle.zarrs_engine.specs.Outcomes.{MayRetrieveRegion};
     ghost use Rattle.zarrs_engine.specs.Into.{RetrievesIntoOrRefuses, target_refusal};
+    ghost use Rattle.zarrs_engine.specs.RegionReads.{MayReadOver};
     ghost use Rattle.zarrs_engine.specs.TargetReads.{HasFillElsewhere, HasReadInto, ReadsChunkInto};
     ghost use Rattle.zarrs_engine.specs.TargetReads.{TakesRegion};
 
@@ -101,9 +100,7 @@ impl<
         target: &mut ArrayBytesDecodeIntoTarget<'_, '_, '_>,
         filled: bool,
     ) -> Result<(), ArrayError>
-        requires cover { CoverRegion (layout_of self.now).grid (box_of region.now)
-            (positions (box_of chunks.now)) }
-        requires ask { MayReadParts (layout_of self.now) (box_of region.now)
+        requires over { MayReadOver (layout_of self.now) (box_of region.now)
             (positions (box_of chunks.now)) (store_of S.state self.now) }
         requires target { TakesRegion (layout_of self.now) (box_of region.now) target.old }
         requires filled { filled ≡ true → HasFillElsewhere (layout_of self.now) (box_of region.now)

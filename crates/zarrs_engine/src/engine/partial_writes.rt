@@ -9,7 +9,7 @@ use zarrs_engine_calls::ArrayError;
 use zarrs_engine_layout::Chunk;
 use zarrs_keys::ChunkKeyEncodingTraits;
 use zarrs_storage::{StorageError, StoreKey, WritableStorageTraits};
-use zarrs_subset::{ArraySubset, ArraySubsetError, lies_in_box};
+use zarrs_subset::{ArraySubset, lies_in_box};
 
 impl<
     S: WritableStorageTraits,
@@ -20,12 +20,10 @@ impl<
     ghost use Rattle.std.specs.Prelude.{◌≡◌, true, [], ◌∷◌, ◌&&◌, length, None, Some};
     ghost use Rattle.std.specs.Prelude.{IfOk, IfErr, IsTrue, ◌↔◌};
     ghost use Rattle.zarrs_subset.specs.Boxes.{position_count};
-    ghost use Rattle.zarrs_subset.specs.Regions.{LiesInBox, LiesInShape, box_of, seen_from};
-    ghost use Rattle.zarrs_subset.specs.Refusals.{RefusesOffset};
+    ghost use Rattle.zarrs_subset.specs.Regions.{LiesInBox, LiesInShape, box_of};
     ghost use Rattle.zarrs_chunk_grid.specs.Grids.{box_at, has_box};
     ghost use Rattle.zarrs_data_type.specs.ArrayData.{data_of};
     ghost use Rattle.zarrs_data_type.specs.Cells.{HasCells};
-    ghost use Rattle.zarrs_data_type.specs.Parts.{ExtractsCells};
     ghost use Rattle.zarrs_codec_shard.specs.PartialShards.{after};
     ghost use Rattle.zarrs_codec_shard.specs.ShardPatches.{change_of};
     ghost use Rattle.zarrs_codec_chain.specs.Chain.{partial_encoding};
@@ -124,7 +122,7 @@ impl<
             (data_of part_data.now) 0 (store_of S.state self.now) (refusal_of e)) }
     {
         let region = &chunk.region;
-        let Some(encoded) = self.stored_at(alloc, chunk)? else {
+        let Some(encoded) = self.stored_at(alloc, chunk.indices, &chunk.key)? else {
             return self
                 .layout
                 .partial_encode(alloc, region, None, part, part_data, options);
@@ -197,37 +195,9 @@ impl<
         }
         if whole {
             // No cell of the chunk stays, so its bytes are not decoded.
-            self.stored_at(alloc, &chunk)?;
+            self.stored_at(alloc, chunk_indices, &chunk.key)?;
         }
         self.store_whole(alloc, &region, chunk_subset_data, &chunk, options)
-    }
-
-    /// Returns a box inside a region, seen from `origin`, and the region's cells in it.
-    fn seen_cells(
-        &self,
-        alloc: Global,
-        region: &ArraySubset,
-        region_data: &ArrayBytes<'_>,
-        inner: &ArraySubset,
-        origin: &[u64],
-    ) -> Result<(ArraySubset, ArrayBytes<'static>), ArraySubsetError>
-        requires inside { LiesInBox (box_of inner.now) (box_of region.now) }
-        requires given { HasCells (layout_of self.now).kind (data_of region_data.now)
-            (position_count (box_of region.now).shape) }
-        ensures seen { IfOk result (λ made. box_of made.0
-            ≡ seen_from (box_of inner.now) origin.now) }
-        ensures cells { IfOk result (λ made. ExtractsCells (layout_of self.now).kind
-            (box_of region.now) (data_of region_data.now) (box_of inner.now) (data_of made.1)) }
-        ensures refused { IfErr result (RefusesOffset (box_of inner.now).start origin.now) }
-    {
-        let seen = inner.relative_to(alloc, origin)?;
-        let data = region_data.extract_array_subset(
-            alloc,
-            &self.layout.cell_type.data_type,
-            region,
-            inner,
-        )?;
-        Ok((seen, data))
     }
 
     /// Stores the part of the region's data that one chunk takes, by itself. The region covers a part of the chunk alone.
@@ -259,7 +229,9 @@ impl<
     {
         let shared = region.overlap(alloc, &chunk.region)?;
         let origin = chunk.region.start();
-        let (part, data) = self.seen_cells(alloc, region, region_data, &shared, origin)?;
+        let part = shared.relative_to(alloc, origin)?;
+        let data_type = &self.layout.cell_type.data_type;
+        let data = region_data.extract_array_subset(alloc, data_type, region, &shared)?;
         self.patch_chunk(alloc, chunk, &part, &data, options)
     }
 }

@@ -1,4 +1,4 @@
-//! Reads of one chunk.
+//! Reads of one chunk, and of chunks as the bytes that are stored, which are not decoded.
 use super::Engine;
 use std::alloc::Global;
 use zarrs_chunk_grid::ChunkGridTraits;
@@ -7,7 +7,8 @@ use zarrs_data_type::ArrayBytes;
 use zarrs_engine_calls::ArrayError;
 use zarrs_engine_layout::{Chunk, invalid_indices};
 use zarrs_keys::ChunkKeyEncodingTraits;
-use zarrs_storage::{Bytes, ReadableStorageTraits};
+use zarrs_storage::{Bytes, ReadableStorageTraits, StoreKey};
+use zarrs_subset::ArraySubset;
 
 impl<
     S: ReadableStorageTraits,
@@ -15,17 +16,19 @@ impl<
     K: ChunkKeyEncodingTraits,
     C: ChainTraits,
 > Engine<S, G, K, C> {
-    ghost use Rattle.std.specs.Prelude.{◌≡◌, true, false, IfOk, IfErr, OnOk, IsErr, None, length, option_map};
+    ghost use Rattle.std.specs.Prelude.{◌≡◌, true, IfOk, IfErr, None, length, map, option_map};
     ghost use Rattle.zarrs_data_type.specs.ArrayData.{data_of};
     ghost use Rattle.zarrs_engine_calls.specs.Content.{value_at};
-    ghost use Rattle.zarrs_engine_calls.specs.Reach.{MayAskChunk};
+    ghost use Rattle.zarrs_engine_calls.specs.Reach.{MayAskChunk, MayAskChunks};
     ghost use Rattle.zarrs_engine_calls.specs.Refusals.{refusal_of, key_refusal, length_refusal};
-    ghost use Rattle.zarrs_engine_calls.specs.Changes.{RetrievesChunk, RetrievesIfExists};
+    ghost use Rattle.zarrs_engine_calls.specs.Changes.{RetrievesChunk};
     ghost use Rattle.zarrs_engine_calls.specs.StateRefusals.{RefusesChunkRead};
     ghost use Rattle.zarrs_engine.specs.Engine.{layout_of, store_of};
     ghost use Rattle.zarrs_engine.specs.Outcomes.{RetrievesChunkOrRefuses, RetrievesIfExistsOrRefuses};
     ghost use Rattle.zarrs_engine_layout.specs.Chunks.{IsChunk};
-    ghost use Rattle.zarrs_engine_layout.specs.Steps.{RefusesValue};
+    ghost use Rattle.zarrs_engine.specs.Encoded.{ReadsValue, RefusesEncoded, stored_values};
+    ghost use Rattle.zarrs_subset.specs.Regions.{box_of, positions};
+    ghost use Rattle.zarrs_engine_layout.specs.Answers.{Answers};
 
     /// Returns the bytes that are present at the key of the chunk with these indices.
     #[inline(always)]
@@ -35,49 +38,32 @@ impl<
         chunk_indices: &[u64],
     ) -> Result<Option<Bytes>, ArrayError>
         requires { MayAskChunk (layout_of self.now) chunk_indices.now (store_of S.state self.now) }
-        ensures value { IfOk result (λ value. value
-            ≡ value_at (store_of S.state self.now) ((layout_of self.now).key chunk_indices.now)) }
-        ensures long { OnOk result (length chunk_indices.now
-            ≡ (layout_of self.now).grid.dimensions) }
-        ensures asked { OnOk result
-            (key_refusal (layout_of self.now) chunk_indices.now (store_of S.state self.now)
-            ≡ None) }
-        ensures refused { IfErr result
-            (λ e. RefusesValue (layout_of self.now) chunk_indices.now (store_of S.state self.now)
-            (refusal_of e)) }
-        ensures refusing { (store_of S.state self.now).refuses
-            ((layout_of self.now).key chunk_indices.now) ≡ true → IsErr result }
+        ensures { ReadsValue (layout_of self.now) chunk_indices.now (store_of S.state self.now)
+            result }
     {
         if chunk_indices.len() != self.layout.grid.dimensionality() {
             return Err(invalid_indices(alloc, chunk_indices));
         }
         let key = self.layout.chunk_key(alloc, chunk_indices)?;
-        let value = self.storage.get(alloc, &key)?;
-        Ok(value)
+        self.stored_at(alloc, chunk_indices, &key)
     }
 
-    /// Returns the bytes that are present at the key of this chunk.
+    /// Returns the bytes that are present at this key, which is that of the chunk with these indices.
     #[inline(always)]
     pub(crate) fn stored_at(
         &self,
         alloc: Global,
-        chunk: &Chunk<'_>,
+        chunk_indices: &[u64],
+        key: &StoreKey,
     ) -> Result<Option<Bytes>, ArrayError>
-        requires chunk { IsChunk (layout_of self.now) chunk.now }
-        requires ask { MayAskChunk (layout_of self.now) chunk.now.indices.now
+        requires long { length chunk_indices.now ≡ (layout_of self.now).grid.dimensions }
+        requires key { key.now ≡ (layout_of self.now).key chunk_indices.now }
+        requires ask { MayAskChunk (layout_of self.now) chunk_indices.now
             (store_of S.state self.now) }
-        ensures value { IfOk result (λ value. value ≡ value_at (store_of S.state self.now)
-            ((layout_of self.now).key chunk.now.indices.now)) }
-        ensures asked { OnOk result
-            (key_refusal (layout_of self.now) chunk.now.indices.now (store_of S.state self.now)
-            ≡ None) }
-        ensures refused { IfErr result
-            (λ e. RefusesValue (layout_of self.now) chunk.now.indices.now
-            (store_of S.state self.now) (refusal_of e)) }
-        ensures refusing { (store_of S.state self.now).refuses
-            ((layout_of self.now).key chunk.now.indices.now) ≡ true → IsErr result }
+        ensures { ReadsValue (layout_of self.now) chunk_indices.now (store_of S.state self.now)
+            result }
     {
-        let value = self.storage.get(alloc, &chunk.key)?;
+        let value = self.storage.get(alloc, key)?;
         Ok(value)
     }
 
@@ -124,7 +110,7 @@ impl<
             (store_of S.state self.now) }
         ensures { RetrievesChunkOrRefuses S.state chunk.now.indices.now self.now result }
     {
-        let stored = self.stored_at(alloc, chunk)?;
+        let stored = self.stored_at(alloc, chunk.indices, &chunk.key)?;
         self.cells_of(alloc, chunk.indices, stored)
     }
 
@@ -168,5 +154,64 @@ impl<
     {
         let stored = self.stored_bytes(alloc, chunk_indices)?;
         self.cells_of(alloc, chunk_indices, stored)
+    }
+
+    /// Returns the bytes that are stored for the chunk with these indices, or `None` if it is absent.
+    ///
+    /// # Errors
+    /// E7 if the store refuses the key. E9 may come at any time.
+    pub fn retrieve_encoded_chunk(
+        &self,
+        alloc: Global,
+        chunk_indices: &[u64],
+    ) -> Result<Option<Vec<u8>>, ArrayError>
+        requires dimensions { length chunk_indices.now ≡ (layout_of self.now).grid.dimensions }
+        requires ask { MayAskChunk (layout_of self.now) chunk_indices.now
+            (store_of S.state self.now) }
+        ensures { Answers (key_refusal (layout_of self.now) chunk_indices.now
+            (store_of S.state self.now)) (λ value. option_map (λ v. v.items) value
+            ≡ value_at (store_of S.state self.now) ((layout_of self.now).key chunk_indices.now))
+            result }
+    {
+        let Some(encoded) = self.stored_bytes(alloc, chunk_indices)? else {
+            return Ok(None);
+        };
+        Ok(Some(encoded.to_vec(alloc)?))
+    }
+
+    /// Returns the bytes that are stored for each chunk of the range, in row-major order, `None` for a chunk that is
+    /// absent.
+    ///
+    /// # Errors
+    /// E8 for more chunks than a `u64` counts; E7 if the store refuses the key of one of them. E9 may come at any time.
+    pub fn retrieve_encoded_chunks(
+        &self,
+        alloc: Global,
+        chunks: &ArraySubset,
+    ) -> Result<Vec<Option<Vec<u8>>>, ArrayError>
+        requires dimensions { length (box_of chunks.now).start
+            ≡ (layout_of self.now).grid.dimensions }
+        requires ask { MayAskChunks (layout_of self.now) (positions (box_of chunks.now))
+            (store_of S.state self.now) }
+        ensures values { IfOk result (λ values. map (option_map (λ v. v.items)) values.items
+            ≡ stored_values (layout_of self.now) (store_of S.state self.now)
+            (positions (box_of chunks.now))) }
+        ensures refused { IfErr result (λ e. RefusesEncoded (layout_of self.now)
+            (positions (box_of chunks.now)) (store_of S.state self.now) (refusal_of e)) }
+    {
+        if chunks.num_elements().is_err() {
+            return Err(ArrayError::SizeOverflow);
+        }
+        let mut values = Vec::new(alloc);
+        let Some(mut walk) = chunks.walk(alloc)? else {
+            return Ok(values);
+        };
+        loop {
+            let value = self.retrieve_encoded_chunk(alloc, walk.current())?;
+            values.push(value)?;
+            if !walk.advance() {
+                return Ok(values);
+            }
+        }
     }
 }

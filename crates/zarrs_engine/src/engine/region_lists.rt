@@ -16,20 +16,17 @@ impl<
     K: ChunkKeyEncodingTraits,
     C: ChainTraits,
 > Engine<S, G, K, C> {
-    ghost use Rattle.std.specs.Prelude.{◌≡◌, ◌*◌, ◌<◌, ◌^◌, true, None, Some, IfErr, IfOk, OnOk, length};
+    ghost use Rattle.std.specs.Prelude.{◌≡◌, ◌*◌, ◌<◌, ◌^◌, true, Some, IfErr, IfOk, OnOk, length};
     ghost use Rattle.std.specs.Prelude.{replicate};
-    ghost use Rattle.zarrs_engine_layout.specs.Covers.{CoverRegion};
-    ghost use Rattle.zarrs_engine_calls.specs.ArgumentRefusals.{size_refusal};
-    ghost use Rattle.zarrs_engine_calls.specs.Reach.{MayReadParts};
-    ghost use Rattle.zarrs_engine_calls.specs.Reads.{ReadsRegion};
     ghost use Rattle.zarrs_engine_calls.specs.Refusals.{refusal_of};
-    ghost use Rattle.zarrs_engine_calls.specs.StateRefusals.{RefusesRegionRead, RefusesSomeChunk};
-    ghost use Rattle.zarrs_data_type.specs.ArrayData.{data_of, fixed};
+    ghost use Rattle.zarrs_engine_calls.specs.StateRefusals.{RefusesSomeChunk};
+    ghost use Rattle.zarrs_data_type.specs.ArrayData.{fixed};
     ghost use Rattle.zarrs_data_type.specs.Cells.{cells};
     ghost use Rattle.zarrs_subset.specs.Boxes.{position_count};
     ghost use Rattle.zarrs_subset.specs.Regions.{box_at_origin, box_of, positions};
     ghost use Rattle.zarrs_data_type.specs.Targets.{masked, takes_type};
     ghost use Rattle.zarrs_engine.specs.Engine.{layout_of, store_of};
+    ghost use Rattle.zarrs_engine.specs.RegionReads.{MayReadOver, ReadsOver};
     ghost use Rattle.zarrs_engine.specs.TargetReads.{HasReadInto};
 
     /// Returns the cells of a region that these chunks cover, of a type of this form. They are one list, into which
@@ -41,20 +38,13 @@ impl<
         chunks: &ArraySubset,
         form: CellForm,
     ) -> Result<ArrayBytes<'static>, ArrayError>
-        requires cover { CoverRegion (layout_of self.now).grid (box_of region.now)
-            (positions (box_of chunks.now)) }
-        requires ask { MayReadParts (layout_of self.now) (box_of region.now)
+        requires over { MayReadOver (layout_of self.now) (box_of region.now)
             (positions (box_of chunks.now)) (store_of S.state self.now) }
         requires takes { takes_type form.size form.depth (layout_of self.now).kind ≡ true }
-        ensures read { IfOk result (λ made. ReadsRegion (layout_of self.now) (box_of region.now)
-            (positions (box_of chunks.now)) (data_of made) (store_of S.state self.now)) }
-        ensures accepted { OnOk result
-            (size_refusal (layout_of self.now) (box_of region.now).shape ≡ None) }
-        ensures refused { IfErr result (λ e. RefusesRegionRead (layout_of self.now)
-            (size_refusal (layout_of self.now) (box_of region.now).shape) (box_of region.now)
-            (positions (box_of chunks.now)) (store_of S.state self.now) (refusal_of e)) }
+        ensures { ReadsOver (layout_of self.now) (box_of region.now)
+            (positions (box_of chunks.now)) (store_of S.state self.now) result }
     {
-        let count = self.count_to_read(region)? as usize;
+        let count = self.layout.cell_count(region)? as usize;
         let mut bytes = self.first_bytes(alloc, count, form)?;
         let mut masks = zero_masks(alloc, count, form.depth)?;
         self.read_into_list(alloc, region, chunks, form, &mut bytes, &mut masks)?;
@@ -101,9 +91,7 @@ impl<
         bytes: &mut [u8],
         masks: &mut [u8],
     ) -> Result<(), ArrayError>
-        requires cover { CoverRegion (layout_of self.now).grid (box_of region.now)
-            (positions (box_of chunks.now)) }
-        requires ask { MayReadParts (layout_of self.now) (box_of region.now)
+        requires over { MayReadOver (layout_of self.now) (box_of region.now)
             (positions (box_of chunks.now)) (store_of S.state self.now) }
         requires takes { takes_type form.size form.depth (layout_of self.now).kind ≡ true }
         requires counted { position_count (box_of region.now).shape < 2 ^ 64 }

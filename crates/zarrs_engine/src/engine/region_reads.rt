@@ -1,4 +1,4 @@
-//! Reads of regions, which may cross many chunks.
+//! Reads of regions, which may cross many chunks, of ranges of chunks and of parts of chunks.
 use super::Engine;
 use super::region_lists::form_of;
 use std::alloc::Global;
@@ -18,48 +18,29 @@ impl<
     K: ChunkKeyEncodingTraits,
     C: ChainTraits,
 > Engine<S, G, K, C> {
-    ghost use Rattle.std.specs.Prelude.{◌≡◌, ◌<◌, ◌*◌, ◌^◌, true, false, [], ◌∷◌, Some, None, IfOk, IfErr, IfSome};
-    ghost use Rattle.std.specs.Prelude.{IfNone, OnOk, length, replicate};
+    ghost use Rattle.std.specs.Prelude.{◌≡◌, ◌<◌, true, false, [], ◌∷◌, Some, None, IfOk, IfErr, IfSome};
+    ghost use Rattle.std.specs.Prelude.{IfNone, length};
     ghost use Rattle.zarrs_subset.specs.Boxes.{position_count};
     ghost use Rattle.zarrs_subset.specs.Regions.{Box, LiesInShape, box_of, positions};
     ghost use Rattle.zarrs_chunk_grid.specs.Grids.{box_at, has_box};
-    ghost use Rattle.zarrs_data_type.specs.Kind.{cell_size};
-    ghost use Rattle.zarrs_data_type.specs.ArrayData.{ArrayData, data_of};
-    ghost use Rattle.zarrs_data_type.specs.Cells.{cells, HasCells};
+    ghost use Rattle.zarrs_data_type.specs.ArrayData.{data_of};
+    ghost use Rattle.zarrs_data_type.specs.Cells.{HasCells};
     ghost use Rattle.zarrs_data_type.specs.RegionData.{region_data};
-    ghost use Rattle.zarrs_subset.specs.Regions.{LiesInBox};
     ghost use Rattle.zarrs_engine_calls.specs.ArgumentRefusals.{size_refusal};
-    ghost use Rattle.zarrs_engine_calls.specs.ChunkBoxes.{CoversBox, is_empty};
+    ghost use Rattle.zarrs_engine_calls.specs.ChunkBoxes.{is_empty, chunk_part};
     ghost use Rattle.zarrs_engine_calls.specs.Content.{value_at};
-    ghost use Rattle.zarrs_engine_calls.specs.Reach.{MayAskChunk, MayDecodePart, MayReadPart};
-    ghost use Rattle.zarrs_engine_calls.specs.Reach.{MayReadParts};
-    ghost use Rattle.zarrs_engine_calls.specs.ChunkBoxes.{chunk_part};
-    ghost use Rattle.zarrs_engine_calls.specs.Reads.{ReadsRegion};
-    ghost use Rattle.zarrs_engine_calls.specs.Refusals.{RefusesBy, refusal_of};
-    ghost use Rattle.zarrs_engine_calls.specs.StateRefusals.{IsPart, RefusesRegionRead, RefusesSomeChunk};
+    ghost use Rattle.zarrs_engine_calls.specs.Reach.{MayDecodePart, MayReadPart};
+    ghost use Rattle.zarrs_engine_calls.specs.Refusals.{refusal_of};
+    ghost use Rattle.zarrs_engine_calls.specs.StateRefusals.{IsPart, RefusesSomeChunk};
     ghost use Rattle.zarrs_engine.specs.Engine.{layout_of, store_of};
     ghost use Rattle.zarrs_engine.specs.Outcomes.{RetrievesRegionOrRefuses, MayRetrieveRegion};
+    ghost use Rattle.zarrs_engine.specs.Outcomes.{RetrievesChunksOrRefuses, MayRetrieveChunks};
+    ghost use Rattle.zarrs_engine.specs.Outcomes.{MayRetrievePart, RetrievesPartOrRefuses};
+    ghost use Rattle.zarrs_engine_layout.specs.Answers.{Answers};
     ghost use Rattle.zarrs_engine_layout.specs.Covers.{CoverRegion};
-    ghost use Rattle.zarrs_engine.specs.RegionReads.{DecodesStored, HasRead, IsRegionOf, ReadsChunkOf};
-
-    /// Returns how many cells a region has.
-    ///
-    /// # Errors
-    /// E8 for cells of more bytes than a `usize` counts.
-    pub(super) fn count_to_read(&self, region: &ArraySubset) -> Result<u64, ArrayError>
-        ensures count { IfOk result (λ count. count ≡ position_count (box_of region.now).shape) }
-        ensures fits { IfOk result (λ count. count * cell_size (layout_of self.now).kind
-            < 2 ^ 64) }
-        ensures accepted { OnOk result
-            (size_refusal (layout_of self.now) (box_of region.now).shape ≡ None) }
-        ensures refused { IfErr result (λ e. RefusesBy (size_refusal (layout_of self.now)
-            (box_of region.now).shape) (refusal_of e)) }
-    {
-        match self.layout.cell_count(region) {
-            Some(count) => Ok(count),
-            None => Err(ArrayError::SizeOverflow),
-        }
-    }
+    ghost use Rattle.zarrs_engine_layout.specs.Steps.{IsFill};
+    ghost use Rattle.zarrs_engine.specs.RegionReads.{DecodesStored, HasRead, IsRegionOf, MayReadOver};
+    ghost use Rattle.zarrs_engine.specs.RegionReads.{ReadsChunkOf, ReadsOver};
 
     /// Returns the cells of a region if each is the fill value's.
     pub(super) fn region_of_fill(
@@ -67,15 +48,11 @@ impl<
         alloc: Global,
         region: &ArraySubset,
     ) -> Result<RegionCells, ArrayError>
-        ensures cells { IfOk result (λ made. cells (layout_of self.now).kind (region_data made)
-            ≡ Some (replicate (position_count (box_of region.now).shape)
-            (layout_of self.now).fill)) }
-        ensures accepted { OnOk result
-            (size_refusal (layout_of self.now) (box_of region.now).shape ≡ None) }
-        ensures refused { IfErr result (λ e. RefusesBy (size_refusal (layout_of self.now)
-            (box_of region.now).shape) (refusal_of e)) }
+        ensures { Answers (size_refusal (layout_of self.now) (box_of region.now).shape)
+            (λ made. IsFill (layout_of self.now) (position_count (box_of region.now).shape)
+            (region_data made)) result }
     {
-        let count = self.count_to_read(region)?;
+        let count = self.layout.cell_count(region)?;
         let CellType {
             data_type,
             fill_value,
@@ -139,83 +116,23 @@ impl<
             (store_of S.state self.now) (region_data held) result }
     {
         let chunk = self.layout.chunk_box(alloc, chunk_indices)?;
+        let data_type = &self.layout.cell_type.data_type;
         if lies_in_box(&chunk, region) {
-            return self.with_whole_chunk(alloc, region, held, chunk_indices, &chunk);
+            let Some(encoded) = self.stored_bytes(alloc, chunk_indices)? else {
+                return Ok(held);
+            };
+            let part = self.layout.decode(alloc, chunk_indices, &encoded)?;
+            let made = held.with_part(alloc, data_type, region, &part, &chunk)?;
+            return Ok(made);
         }
-        self.with_chunk_part(alloc, region, held, chunk_indices, &chunk)
-    }
-
-    /// Returns the same, of a chunk that the region covers.
-    fn with_whole_chunk(
-        &self,
-        alloc: Global,
-        region: &ArraySubset,
-        held: RegionCells,
-        chunk_indices: &[u64],
-        chunk: &ArraySubset,
-    ) -> Result<RegionCells, ArrayError>
-        requires boxed { has_box (layout_of self.now).grid chunk_indices.now ≡ true }
-        requires chunk { box_of chunk.now ≡ box_at (layout_of self.now).grid chunk_indices.now }
-        requires covers { CoversBox (box_of region.now) (box_of chunk.now) }
-        requires dimensions { length (box_of region.now).start
-            ≡ (layout_of self.now).grid.dimensions }
-        requires held { HasCells (layout_of self.now).kind (region_data held)
-            (position_count (box_of region.now).shape) }
-        requires ask { MayAskChunk (layout_of self.now) chunk_indices.now
-            (store_of S.state self.now) }
-        ensures { ReadsChunkOf (layout_of self.now) (box_of region.now) chunk_indices.now
-            (store_of S.state self.now) (region_data held) result }
-    {
-        let Some(encoded) = self.stored_bytes(alloc, chunk_indices)? else {
-            return Ok(held);
-        };
-        let part = self.layout.decode(alloc, chunk_indices, &encoded)?;
-        let made = held.with_part(
-            alloc,
-            &self.layout.cell_type.data_type,
-            region,
-            &part,
-            chunk,
-        )?;
-        Ok(made)
-    }
-
-    /// Returns the same, of a chunk of which the region covers a part alone.
-    fn with_chunk_part(
-        &self,
-        alloc: Global,
-        region: &ArraySubset,
-        held: RegionCells,
-        chunk_indices: &[u64],
-        chunk: &ArraySubset,
-    ) -> Result<RegionCells, ArrayError>
-        requires boxed { has_box (layout_of self.now).grid chunk_indices.now ≡ true }
-        requires chunk { box_of chunk.now ≡ box_at (layout_of self.now).grid chunk_indices.now }
-        requires part { IsPart (layout_of self.now) (box_of region.now) chunk_indices.now }
-        requires dimensions { length (box_of region.now).start
-            ≡ (layout_of self.now).grid.dimensions }
-        requires size { size_refusal (layout_of self.now) (box_of region.now).shape ≡ None }
-        requires held { HasCells (layout_of self.now).kind (region_data held)
-            (position_count (box_of region.now).shape) }
-        requires ask { MayDecodePart (layout_of self.now) (chunk_part (box_of region.now)
-            (box_of chunk.now)) chunk_indices.now (store_of S.state self.now) }
-        ensures { ReadsChunkOf (layout_of self.now) (box_of region.now) chunk_indices.now
-            (store_of S.state self.now) (region_data held) result }
-    {
-        let Some(shared) = shared_positions(alloc, region, chunk)? else {
+        let Some(shared) = shared_positions(alloc, region, &chunk)? else {
             return Ok(held);
         };
         let found = self.part_of_chunk(alloc, chunk_indices, chunk.shape(), &shared.part)?;
-        let Some(part) = found else {
+        let Some(cut) = found else {
             return Ok(held);
         };
-        let made = held.with_part(
-            alloc,
-            &self.layout.cell_type.data_type,
-            region,
-            &part,
-            &shared.region,
-        )?;
+        let made = held.with_part(alloc, data_type, region, &cut, &shared.region)?;
         Ok(made)
     }
 
@@ -227,11 +144,9 @@ impl<
         chunks: &ArraySubset,
         held: RegionCells,
     ) -> Result<RegionCells, ArrayError>
-        requires cover { CoverRegion (layout_of self.now).grid (box_of region.now)
-            (positions (box_of chunks.now)) }
-        requires size { size_refusal (layout_of self.now) (box_of region.now).shape ≡ None }
-        requires ask { MayReadParts (layout_of self.now) (box_of region.now)
+        requires over { MayReadOver (layout_of self.now) (box_of region.now)
             (positions (box_of chunks.now)) (store_of S.state self.now) }
+        requires size { size_refusal (layout_of self.now) (box_of region.now).shape ≡ None }
         requires none { HasRead (layout_of self.now) (box_of region.now) []
             (store_of S.state self.now) (region_data held) }
         ensures all { IfOk result (λ made. HasRead (layout_of self.now) (box_of region.now)
@@ -259,17 +174,10 @@ impl<
         region: &ArraySubset,
         chunks: &ArraySubset,
     ) -> Result<ArrayBytes<'static>, ArrayError>
-        requires cover { CoverRegion (layout_of self.now).grid (box_of region.now)
-            (positions (box_of chunks.now)) }
-        requires ask { MayReadParts (layout_of self.now) (box_of region.now)
+        requires { MayReadOver (layout_of self.now) (box_of region.now)
             (positions (box_of chunks.now)) (store_of S.state self.now) }
-        ensures read { IfOk result (λ made. ReadsRegion (layout_of self.now) (box_of region.now)
-            (positions (box_of chunks.now)) (data_of made) (store_of S.state self.now)) }
-        ensures accepted { OnOk result
-            (size_refusal (layout_of self.now) (box_of region.now).shape ≡ None) }
-        ensures refused { IfErr result (λ e. RefusesRegionRead (layout_of self.now)
-            (size_refusal (layout_of self.now) (box_of region.now).shape) (box_of region.now)
-            (positions (box_of chunks.now)) (store_of S.state self.now) (refusal_of e)) }
+        ensures { ReadsOver (layout_of self.now) (box_of region.now)
+            (positions (box_of chunks.now)) (store_of S.state self.now) result }
     {
         if !region.is_empty() {
             if let Ok(1) = chunks.num_elements() {
@@ -298,15 +206,10 @@ impl<
         requires some { is_empty (box_of region.now) ≡ false }
         requires ask { MayReadPart (layout_of self.now) (box_of region.now) chunk_indices.now
             (store_of S.state self.now) }
-        ensures read { IfOk result (λ made. ReadsRegion (layout_of self.now) (box_of region.now)
-            (chunk_indices.now ∷ []) (data_of made) (store_of S.state self.now)) }
-        ensures accepted { OnOk result
-            (size_refusal (layout_of self.now) (box_of region.now).shape ≡ None) }
-        ensures refused { IfErr result (λ e. RefusesRegionRead (layout_of self.now)
-            (size_refusal (layout_of self.now) (box_of region.now).shape) (box_of region.now)
-            (chunk_indices.now ∷ []) (store_of S.state self.now) (refusal_of e)) }
+        ensures { ReadsOver (layout_of self.now) (box_of region.now)
+            (chunk_indices.now ∷ []) (store_of S.state self.now) result }
     {
-        self.count_to_read(region)?;
+        self.layout.cell_count(region)?;
         let extents = self.layout.chunk_shape(alloc, chunk_indices)?;
         let shape = extents.as_slice();
         if region.shape() == shape {
@@ -367,7 +270,60 @@ impl<
         requires { MayRetrieveRegion S.state (box_of array_subset.now) self.now }
         ensures { RetrievesRegionOrRefuses S.state (box_of array_subset.now) self.now result }
     {
+        if let Some(index) = self.layout.only_chunk(alloc, array_subset)? {
+            return self.read_in_chunk(alloc, array_subset, index.as_slice());
+        }
         let chunks = self.layout.chunks_met(alloc, array_subset)?;
         self.read_region(alloc, array_subset, &chunks)
+    }
+
+    /// Returns the cells of the chunks with the indices in the range, in row-major order over all of them. Where a
+    /// chunk is absent they are fill. A range without a chunk has no cell, and asks nothing of the store.
+    ///
+    /// # Errors
+    /// In this order: E1 for another number of dimensions; E3 for a first index without a chunk, then for such a last
+    /// one; E8 for cells of more bytes than a `usize` counts. Then as for `retrieve_array_subset` over the region of these
+    /// chunks. E9 may come at any time.
+    pub fn retrieve_chunks(
+        &self,
+        alloc: Global,
+        chunks: &ArraySubset,
+    ) -> Result<ArrayBytes<'static>, ArrayError>
+        requires { MayRetrieveChunks S.state (box_of chunks.now) self.now }
+        ensures { RetrievesChunksOrRefuses S.state (box_of chunks.now) self.now result }
+    {
+        let region = self.layout.chunks_region(alloc, chunks)?;
+        self.read_region(alloc, &region, chunks)
+    }
+
+    /// Returns the cells of a part of the chunk with these indices, in row-major order. The part is seen from the
+    /// origin of the chunk. Where the chunk is absent they are fill.
+    ///
+    /// # Errors
+    /// In this order: E3 for another number of indices than dimensions, or without a chunk; E2 for a part of another
+    /// number of dimensions, or that passes the chunk. Then for the whole chunk the errors of `retrieve_chunk`; for
+    /// another part E8 for cells of more bytes than a `usize` counts, and then one of these: E7 if the store refuses the
+    /// key, E4 if its bytes do not decode, E8 if what the chain decodes whole of it for the part (the chunk, or a subchunk
+    /// that the part meets) has more bytes than that, or so has its fill where its bytes leave out cells, or if the chunk
+    /// is absent and the part's fill values have more. E9 may come at any time.
+    pub fn retrieve_chunk_subset(
+        &self,
+        alloc: Global,
+        chunk_indices: &[u64],
+        chunk_subset: &ArraySubset,
+    ) -> Result<ArrayBytes<'static>, ArrayError>
+        requires { MayRetrievePart S.state chunk_indices.now (box_of chunk_subset.now) self.now }
+        ensures { RetrievesPartOrRefuses S.state chunk_indices.now (box_of chunk_subset.now) self.now
+            result }
+    {
+        let extents = self.layout.chunk_shape(alloc, chunk_indices)?;
+        let shape = extents.as_slice();
+        self.layout
+            .check_part(alloc, chunk_indices, shape, chunk_subset)?;
+        if chunk_subset.shape() == shape {
+            return self.retrieve_chunk(alloc, chunk_indices);
+        }
+        self.layout.cell_count(chunk_subset)?;
+        self.read_part(alloc, chunk_indices, shape, chunk_subset)
     }
 }

@@ -18,7 +18,7 @@ impl<
     C: ChainTraits,
 > Engine<S, G, K, C> {
     ghost use Rattle.std.specs.Prelude.{◌≡◌, true, false, Bool, [], ◌∷◌, length};
-    ghost use Rattle.std.specs.Prelude.{IfOk, IfErr, OnOk, option_map};
+    ghost use Rattle.std.specs.Prelude.{IfOk, IfErr};
     ghost use Rattle.zarrs_subset.specs.Boxes.{position_count};
     ghost use Rattle.zarrs_subset.specs.Regions.{box_of, positions};
     ghost use Rattle.zarrs_chunk_grid.specs.Grids.{box_at, has_box};
@@ -34,7 +34,7 @@ impl<
     ghost use Rattle.zarrs_engine_layout.specs.Chunks.{IsChunk};
     ghost use Rattle.zarrs_engine_layout.specs.Covers.{CoverRegion};
     ghost use Rattle.zarrs_engine.specs.Engine.{layout_of, store_of};
-    ghost use Rattle.zarrs_engine.specs.PartStores.{IsPartValue, StoresPartOf, StoresPartsOf};
+    ghost use Rattle.zarrs_engine.specs.PartStores.{MakesPartValue, StoresPartOf, StoresPartsOf};
     ghost use Rattle.zarrs_engine.specs.Patches.{Shares, SharesEach};
     ghost use Rattle.zarrs_engine.specs.RegionWrites.{AreCovered, HasUpdated, LeavesPart};
     ghost use Rattle.zarrs_engine.specs.RegionWrites.{StoresOneMore};
@@ -90,23 +90,19 @@ impl<
             (position_count (box_of region.now).shape) }
         requires ask { MayAskParts (layout_of self.now) (box_of region.now)
             (chunk.now.indices.now ∷ []) (store_of S.state self.now) }
-        ensures value { IfOk result (λ value. IsPartValue (layout_of self.now)
-            (stores_empty_chunks options.now) (box_of region.now) (data_of region_data.now)
-            chunk.now.indices.now (store_of S.state self.now) (option_map (λ v. v.items) value)) }
-        ensures fit { OnOk result (is_too_large (layout_of self.now)
-            (box_at (layout_of self.now).grid chunk.now.indices.now).shape ≡ false) }
-        ensures refused { IfErr result (λ e. RefusesPart (layout_of self.now)
-            (stores_empty_chunks options.now) (box_of region.now) (data_of region_data.now)
-            chunk.now.indices.now 0 (store_of S.state self.now) (refusal_of e)) }
+        ensures { MakesPartValue (layout_of self.now) (stores_empty_chunks options.now)
+            (box_of region.now) (data_of region_data.now) chunk.now.indices.now
+            (store_of S.state self.now) result }
     {
-        let Some(_) = self.layout.cell_count(&chunk.region) else {
+        let shape = chunk.region.shape();
+        let Some(_) = self.layout.shape_count(shape) else {
             return Err(ArrayError::SizeOverflow);
         };
         if chunk.region == *region {
-            return self.layout.value_of(alloc, chunk, region_data, options);
+            return self.layout.value_of(alloc, shape, region_data, options);
         }
         let data = self.updated_chunk(alloc, region, region_data, chunk)?;
-        self.layout.value_of_owned(alloc, chunk, data, options)
+        self.layout.value_of_owned(alloc, shape, data, options)
     }
 
     /// Stores the part of the region's data that one chunk takes, by a value of the whole chunk.

@@ -16,22 +16,20 @@ impl<
     K: ChunkKeyEncodingTraits,
     C: ChainTraits,
 > Engine<S, G, K, C> {
-    ghost use Rattle.std.specs.Prelude.{◌≡◌, ◌<◌, ◌+◌, true, false, Bool, Option, None, [], ◌∷◌};
+    ghost use Rattle.std.specs.Prelude.{◌≡◌, ◌<◌, ◌+◌, true, false, Option, None, [], ◌∷◌};
     ghost use Rattle.std.specs.Prelude.{length, slice_index};
-    ghost use Rattle.std.specs.Prelude.{IfOk, IfErr, OnOk, option_map};
+    ghost use Rattle.std.specs.Prelude.{IfOk, IfErr, OnOk};
     ghost use Rattle.zarrs_subset.specs.Regions.{box_of};
-    ghost use Rattle.zarrs_chunk_grid.specs.Grids.{box_at, has_box};
     ghost use Rattle.zarrs_data_type.specs.ArrayData.{data_of};
     ghost use Rattle.zarrs_codec_chain.specs.Options.{stores_empty_chunks};
     ghost use Rattle.zarrs_engine_calls.specs.Cuts.{cut_chunks, is_cut, keeps_some};
     ghost use Rattle.zarrs_engine_calls.specs.Reach.{MayAskChunk, MayAskKept};
     ghost use Rattle.zarrs_engine_calls.specs.Refusals.{Refusal, is_too_large, refusal_of};
-    ghost use Rattle.zarrs_engine_calls.specs.StateRefusals.{RefusesCut, RefusesKeptCut};
     ghost use Rattle.zarrs_engine_layout.specs.Chunks.{IsChunk};
     ghost use Rattle.zarrs_engine.specs.Engine.{layout_of, state_of, store_of, KeepsLayout};
     ghost use Rattle.zarrs_engine.specs.Outcomes.{Writes};
-    ghost use Rattle.zarrs_engine.specs.Resizes.{HasCut, HasCutCells, HasFilled, IsCutValue};
-    ghost use Rattle.zarrs_engine.specs.Resizes.{LeavesCut, LeavesFront, PassesChunk, RefusesFilling};
+    ghost use Rattle.zarrs_engine.specs.Resizes.{HasCut, HasFilled, LeavesCut, LeavesFront};
+    ghost use Rattle.zarrs_engine.specs.Resizes.{MakesCutValue, PassesChunk, RefusesFilling};
 
     /// Returns the cells of a chunk that begins below the shape, after those that are not below it along an axis became
     /// fill.
@@ -63,61 +61,32 @@ impl<
         Ok(made)
     }
 
-    /// Returns the cells of a chunk that has some below the shape, after the others became fill. The chunk is read.
-    fn cut_cells(
-        &self,
-        alloc: Global,
-        chunk: &Chunk<'_>,
-        shape: &[u64],
-    ) -> Result<ArrayBytes<'static>, ArrayError>
-        requires chunk { IsChunk (layout_of self.now) chunk.now }
-        requires fit { is_too_large (layout_of self.now) (box_of chunk.now.region).shape ≡ false }
-        requires dimensions { length shape.now ≡ (layout_of self.now).grid.dimensions }
-        requires kept { keeps_some (layout_of self.now).grid shape.now chunk.now.indices.now ≡ true }
-        requires ask { MayAskChunk (layout_of self.now) chunk.now.indices.now
-            (store_of S.state self.now) }
-        ensures cut { IfOk result (λ made. HasCutCells (layout_of self.now) shape.now
-            chunk.now.indices.now (store_of S.state self.now) (data_of made)) }
-        ensures refused { (keep : Bool) → IfErr result (λ e. RefusesKeptCut (layout_of self.now)
-            keep shape.now chunk.now.indices.now 0 (store_of S.state self.now) (refusal_of e)) }
-    {
-        let mut made = self.chunk_cells(alloc, chunk)?;
-        for axis in 0..shape.len() {
-            made = self.fill_beyond(alloc, made, &chunk.region, shape, axis)?;
-        }
-        Ok(made)
-    }
-
-    /// Returns what is to be present at the key of a chunk after it was cut to the shape: nothing if it has no cell
-    /// below it.
+    /// Returns what is to be present at the key of a chunk that has cells below the shape, after the others became fill.
+    /// The chunk is read.
     fn cut_value(
         &self,
         alloc: Global,
         chunk: &Chunk<'_>,
-        keeps: bool,
         shape: &[u64],
         options: &CodecOptions,
     ) -> Result<Option<Vec<u8>>, ArrayError>
         requires chunk { IsChunk (layout_of self.now) chunk.now }
         requires dimensions { length shape.now ≡ (layout_of self.now).grid.dimensions }
-        requires kept { keeps ≡ keeps_some (layout_of self.now).grid shape.now chunk.now.indices.now }
-        requires ask { MayAskKept (layout_of self.now) shape.now (chunk.now.indices.now ∷ [])
+        requires kept { keeps_some (layout_of self.now).grid shape.now chunk.now.indices.now ≡ true }
+        requires ask { MayAskChunk (layout_of self.now) chunk.now.indices.now
             (store_of S.state self.now) }
-        ensures value { IfOk result (λ value. IsCutValue (layout_of self.now)
-            (stores_empty_chunks options.now) shape.now chunk.now.indices.now
-            (store_of S.state self.now) (option_map (λ v. v.items) value)) }
-        ensures refused { IfErr result (λ e. RefusesCut (layout_of self.now)
-            (stores_empty_chunks options.now) shape.now chunk.now.indices.now 0
-            (store_of S.state self.now) (refusal_of e)) }
+        ensures { MakesCutValue (layout_of self.now) (stores_empty_chunks options.now) shape.now
+            chunk.now.indices.now (store_of S.state self.now) result }
     {
-        if !keeps {
-            return Ok(None);
-        }
-        let Some(_) = self.layout.cell_count(&chunk.region) else {
+        let extents = chunk.region.shape();
+        let Some(_) = self.layout.shape_count(extents) else {
             return Err(ArrayError::SizeOverflow);
         };
-        let data = self.cut_cells(alloc, chunk, shape)?;
-        let value = self.layout.value_of_owned(alloc, chunk, data, options)?;
+        let mut made = self.chunk_cells(alloc, chunk)?;
+        for axis in 0..shape.len() {
+            made = self.fill_beyond(alloc, made, &chunk.region, shape, axis)?;
+        }
+        let value = self.layout.value_of_owned(alloc, extents, made, options)?;
         Ok(value)
     }
 
@@ -142,8 +111,13 @@ impl<
         let Some(keeps) = self.layout.cut(chunk_indices, shape) else {
             return Ok(());
         };
+        if !keeps {
+            let key = self.layout.chunk_key(alloc, chunk_indices)?;
+            self.put(alloc, &key, None)?;
+            return Ok(());
+        }
         let chunk = self.layout.chunk(alloc, chunk_indices)?;
-        let value = self.cut_value(alloc, &chunk, keeps, shape, options)?;
+        let value = self.cut_value(alloc, &chunk, shape, options)?;
         self.put(alloc, &chunk.key, value)?;
         Ok(())
     }
@@ -186,16 +160,13 @@ impl<
     K: ChunkKeyEncodingTraits,
     C: ChainTraits,
 > Engine<S, G, K, C> {
-    ghost use Rattle.std.specs.Prelude.{◌≡◌, None, IfErr, OnErr, OnOk};
+    ghost use Rattle.std.specs.Prelude.{◌≡◌, None};
     ghost use Rattle.zarrs_codec_chain.specs.Options.{stores_empty_chunks};
     ghost use Rattle.zarrs_engine_calls.specs.ArgumentRefusals.{resize_refusal};
-    ghost use Rattle.zarrs_engine_calls.specs.Canon.{KeepsCanon};
     ghost use Rattle.zarrs_engine_calls.specs.Cuts.{cut_chunks};
     ghost use Rattle.zarrs_engine_calls.specs.Reach.{MayAskKept};
-    ghost use Rattle.zarrs_engine_calls.specs.Refusals.{refusal_of};
-    ghost use Rattle.zarrs_engine_calls.specs.Step.{ResizesArray, RefusesResize};
-    ghost use Rattle.zarrs_engine.specs.Engine.{layout_of, state_of, store_of, KeepsLayout};
-    ghost use Rattle.zarrs_engine.specs.Engine.{KeepsOthers};
+    ghost use Rattle.zarrs_engine.specs.Engine.{layout_of, state_of, store_of};
+    ghost use Rattle.zarrs_engine.specs.Outcomes.{ResizesOrRefuses};
 
     /// Makes the array's shape this one. Of the chunks of the array as it was, in row-major order, each that has a cell
     /// which is not below the new shape is cut, by one writing call: it is erased if it has no cell below it, else it is
@@ -218,20 +189,8 @@ impl<
             → MayAskKept (layout_of self.old) shape.items (cut_chunks
             (layout_of self.old).grid (state_of S.state self.old).shape shape.items)
             (store_of S.state self.old) }
-        ensures done { OnOk result
-            (ResizesArray (layout_of self.old) (stores_empty_chunks options.now)
-            (state_of S.state self.old).shape shape.items (store_of S.state self.old)
-            (store_of S.state self.new)) }
-        ensures shape { OnOk result ((state_of S.state self.new).shape ≡ shape.items) }
-        ensures refused { IfErr result
-            (λ e. RefusesResize (layout_of self.old) (stores_empty_chunks options.now)
-            (state_of S.state self.old).shape shape.items (refusal_of e)
-            (store_of S.state self.old) (store_of S.state self.new)) }
-        ensures canonical { KeepsCanon (layout_of self.old) (stores_empty_chunks options.now)
-            (store_of S.state self.old) (store_of S.state self.new) }
-        ensures layout { layout_of self.new ≡ layout_of self.old }
-        ensures others { KeepsOthers self.old self.new }
-        ensures layout_kept { OnErr result (KeepsLayout self.old self.new) }
+        ensures { ResizesOrRefuses S.state (stores_empty_chunks options.now) shape.items self.old
+            self.new result }
     {
         let dimensions = self.layout.grid.dimensionality();
         if shape.len() != dimensions {

@@ -1,4 +1,4 @@
-//! Writes of chunks.
+//! Writes of chunks, and compactions.
 use super::Engine;
 use std::alloc::Global;
 use zarrs_chunk_grid::ChunkGridTraits;
@@ -15,7 +15,7 @@ impl<
     K: ChunkKeyEncodingTraits,
     C: ChainTraits,
 > Engine<S, G, K, C> {
-    ghost use Rattle.std.specs.Prelude.{◌≡◌, true, Some, IsSome, IfErr, OnOk, length, option_map};
+    ghost use Rattle.std.specs.Prelude.{◌≡◌, true, Some, IsSome, length, option_map};
     ghost use Rattle.zarrs_chunk_grid.specs.Grids.{box_at, has_box};
     ghost use Rattle.zarrs_engine_calls.specs.Content.{decoded_cells};
     ghost use Rattle.zarrs_subset.specs.Regions.{box_of};
@@ -23,10 +23,11 @@ impl<
     ghost use Rattle.zarrs_codec_chain.specs.Options.{stores_empty_chunks};
     ghost use Rattle.zarrs_engine_calls.specs.Refusals.{refusal_of, refusal_of_storage};
     ghost use Rattle.zarrs_engine_calls.specs.Changes.{IsPut};
-    ghost use Rattle.zarrs_engine.specs.Engine.{layout_of, store_of, KeepsLayout};
-    ghost use Rattle.zarrs_engine.specs.Outcomes.{StoresChunkOrRefuses, Writes};
-    ghost use Rattle.zarrs_engine.specs.Outcomes.{ErasesChunkOrRefuses, ErasesChunksOrRefuses};
+    ghost use Rattle.zarrs_engine.specs.Engine.{layout_of, store_of};
+    ghost use Rattle.zarrs_engine.specs.Outcomes.{StoresChunkOrRefuses, Writes, ErasesChunkOrRefuses};
+    ghost use Rattle.zarrs_engine.specs.Outcomes.{ErasesChunksOrRefuses, CompactsChunkOrRefuses};
     ghost use Rattle.zarrs_engine_layout.specs.Steps.{RefusesPut};
+    ghost use Rattle.zarrs_engine_calls.specs.Reach.{MayAskChunk};
 
     /// Sets the value at one key, or erases the key, by one writing call of the store.
     ///
@@ -90,13 +91,9 @@ impl<
         requires chunk { has_box (layout_of self.old).grid chunk_indices.now ≡ true }
         requires decodes { IsSome (decoded_cells (layout_of self.old)
             (box_at (layout_of self.old).grid chunk_indices.now) encoded_chunk_bytes) }
-        ensures done { OnOk result
-            (IsPut ((layout_of self.old).key chunk_indices.now) (Some encoded_chunk_bytes)
-            (store_of S.state self.old) (store_of S.state self.new)) }
-        ensures refused { IfErr result
-            (λ e. RefusesPut (refusal_of e) (store_of S.state self.old)
-            (store_of S.state self.new)) }
-        ensures layout_kept { KeepsLayout self.old self.new }
+        ensures { Writes refusal_of S.state
+            (IsPut ((layout_of self.old).key chunk_indices.now) (Some encoded_chunk_bytes))
+            RefusesPut self.old self.new result }
     {
         let key = self.layout.chunk_key(alloc, chunk_indices)?;
         self.storage.set(alloc, &key, encoded_chunk_bytes)?;
@@ -133,5 +130,34 @@ impl<
                 return Ok(());
             }
         }
+    }
+
+    /// Puts the compaction of the bytes of the chunk with these indices in their place, by one writing call of the store,
+    /// and returns true. If the chunk is absent or its bytes are compact, nothing is written, and the answer is false. No
+    /// cell changes.
+    ///
+    /// # Errors
+    /// In this order: E7 if the store refuses the key. Then, if the chunk is present, E3 for indices without a chunk; E4
+    /// if the chain takes no such bytes; E8 if their compaction passes a size; E7 if the store refuses the writing call.
+    /// E9 may come at any time. Nothing is changed then.
+    pub fn compact_chunk(
+        &mut self,
+        alloc: Global,
+        chunk_indices: &[u64],
+    ) -> Result<bool, ArrayError>
+        requires dimensions { length chunk_indices.now ≡ (layout_of self.old).grid.dimensions }
+        requires ask { MayAskChunk (layout_of self.old) chunk_indices.now
+            (store_of S.state self.old) }
+        ensures { CompactsChunkOrRefuses S.state chunk_indices.now self.old self.new result }
+    {
+        let key = self.layout.chunk_key(alloc, chunk_indices)?;
+        let Some(encoded) = self.stored_at(alloc, chunk_indices, &key)? else {
+            return Ok(false);
+        };
+        let Some(less) = self.layout.compact(alloc, chunk_indices, &encoded)? else {
+            return Ok(false);
+        };
+        self.put(alloc, &key, Some(less))?;
+        Ok(true)
     }
 }

@@ -5,6 +5,7 @@ use Rattle.zarrs_subset.specs.Regions.{Box, box_of, positions}
 use Rattle.zarrs_subset.specs.Walks.{walk_number}
 use Rattle.zarrs_subset.proofs.Positions.{length-positions}
 use Rattle.zarrs_engine_calls.specs.Refusals.{refusal_of}
+use Rattle.zarrs_engine.specs.Comparisons.{DifferInChunk, HoldSameChunks}
 use Rattle.zarrs_engine.specs.Engine.{layout_of}
 use Rattle.zarrs_engine.proofs.Comparisons.{compares_content, comparison_refused, range_indices, same_all, same_more}
 use Rattle.zarrs_engine.proofs.Encoded.{on_error}
@@ -12,12 +13,12 @@ use Rattle.zarrs_engine.proofs.Ranges.{range_length}
 use Rattle.zarrs_engine.proofs.RegionSteps.{at_among}
 use Rattle.zarrs_engine.proofs.comparison.chunks_equal.Goals as goal
 
-pub returns-then-is_err-clause-refused : goal.returns-then-is_err-clause-refused
-returns-then-is_err-clause-refused g c =
+pub returns-then-is_err : goal.returns-then-is_err
+returns-then-is_err g c =
     let range = box_of c.args.chunks.now in
     let count = length-positions range.start range.shape c.args.chunks.now.same_length in
     let many = on_error c.num_elements.result c.num_elements.ensures.refused (sym c.is_err.ensures.value ∙ c.if-is_err.true) in
-    inl (omega arith)
+    record { equal = tt; different = tt; content = tt; refused = inl (omega arith) }
 
 pub chunk_equal-requires-clause-dimensions_a : goal.chunk_equal-requires-clause-dimensions_a
 chunk_equal-requires-clause-dimensions_a g c =
@@ -51,8 +52,8 @@ chunk_equal-requires-clause-ask_b g c =
     let at = subst (λ (b : Box). slice_get (positions b) n ≡ Some index) c.loop-walk.invariant.same_box c.current.ensures in
     c.requires.ask_b index (at_among chunks n index at)
 
-pub returns-in_err-chunk_equal-clause-refused : goal.returns-in_err-chunk_equal-clause-refused
-returns-in_err-chunk_equal-clause-refused g c =
+pub returns-in_err-chunk_equal : goal.returns-in_err-chunk_equal
+returns-in_err-chunk_equal g c =
     let one = g.S1.ReadableStorageTraits.state c.args.a.now.storage in
     let two = g.S2.ReadableStorageTraits.state c.args.b.now.storage in
     let chunks = positions (box_of c.args.chunks.now) in
@@ -62,50 +63,54 @@ returns-in_err-chunk_equal-clause-refused g c =
     let why = comparison_refused (layout_of c.args.a.now) (layout_of c.args.b.now) one two chunks index (refusal_of c.in_err-chunk_equal.field-0.0) (at_among chunks n index at) c.in_err-chunk_equal.ensures.refused in
     search (rules, why)
 
-pub returns-then-not-branch-clause-different : goal.returns-then-not-branch-clause-different
-returns-then-not-branch-clause-different g c =
-    let chunks = positions (box_of c.args.chunks.now) in
+pub returns-in_default : goal.returns-in_default
+returns-in_default g c =
+    let range = box_of c.args.chunks.now in
+    let chunks = positions range in
+    let a = c.args.a.now in
+    let b = c.args.b.now in
+    let one = g.S1.ReadableStorageTraits.state a.storage in
+    let two = g.S2.ReadableStorageTraits.state b.storage in
+    let long = range_indices range c.args.chunks.now.same_length c.args.chunks.now.ends_fit (layout_of a).grid.dimensions c.requires.dimensions_a in
+    let compares = compares_content (layout_of a) (layout_of b) one two chunks a.layout.lawful b.layout.lawful long in
+    let equal : HoldSameChunks (layout_of a) (layout_of b) one two chunks = search rules in
+    record { equal = equal; different = tt; content = compares true equal tt; refused = tt }
+
+pub returns-then-not-branch : goal.returns-then-not-branch
+returns-then-not-branch g c =
+    let range = box_of c.args.chunks.now in
+    let chunks = positions range in
+    let a = c.args.a.now in
+    let b = c.args.b.now in
+    let one = g.S1.ReadableStorageTraits.state a.storage in
+    let two = g.S2.ReadableStorageTraits.state b.storage in
+    let long = range_indices range c.args.chunks.now.same_length c.args.chunks.now.ends_fit (layout_of a).grid.dimensions c.requires.dimensions_a in
+    let compares = compares_content (layout_of a) (layout_of b) one two chunks a.layout.lawful b.layout.lawful long in
+    let i = c.loop-walk.invariant in
     let n = walk_number c.loop-walk.walk in
     let index = c.current.result.now in
-    let at = subst (λ (b : Box). slice_get (positions b) n ≡ Some index) c.loop-walk.invariant.same_box c.current.ensures in
-    (index, at_among chunks n index at, λ same. false≢true (sym c.if-not-branch.true ∙ c.in_ok-chunk_equal.ensures.equal.1 same))
+    let at = subst (λ (b : Box). slice_get (positions b) n ≡ Some index) i.same_box c.current.ensures in
+    let different : DifferInChunk (layout_of a) (layout_of b) one two chunks = (index, at_among chunks n index at, λ same. false≢true (sym c.if-not-branch.true ∙ c.in_ok-chunk_equal.ensures.equal.1 same)) in
+    record { equal = tt; different = different; content = compares false tt different; refused = tt }
 
-pub returns-then-not-advance-clause-equal : goal.returns-then-not-advance-clause-equal
-returns-then-not-advance-clause-equal g c =
-    let one = g.S1.ReadableStorageTraits.state c.args.a.now.storage in
-    let two = g.S2.ReadableStorageTraits.state c.args.b.now.storage in
-    let chunks = positions (box_of c.args.chunks.now) in
+pub returns-then-not-advance : goal.returns-then-not-advance
+returns-then-not-advance g c =
+    let range = box_of c.args.chunks.now in
+    let chunks = positions range in
+    let a = c.args.a.now in
+    let b = c.args.b.now in
+    let one = g.S1.ReadableStorageTraits.state a.storage in
+    let two = g.S2.ReadableStorageTraits.state b.storage in
+    let long = range_indices range c.args.chunks.now.same_length c.args.chunks.now.ends_fit (layout_of a).grid.dimensions c.requires.dimensions_a in
+    let compares = compares_content (layout_of a) (layout_of b) one two chunks a.layout.lawful b.layout.lawful long in
     let i = c.loop-walk.invariant in
     let n = walk_number c.loop-walk.walk in
     let index = c.current.result.now in
     let at = subst (λ (b : Box). slice_get (positions b) n ≡ Some index) i.same_box c.current.ensures in
     let last = subst (λ (b : Box). n + 1 ≡ length (positions b)) i.same_box c.if-not-advance.ensures.last in
-    same_all (layout_of c.args.a.now) (layout_of c.args.b.now) one two chunks (n + 1) last
-    (same_more (layout_of c.args.a.now) (layout_of c.args.b.now) one two chunks n (n + 1) index refl at i.same (c.in_ok-chunk_equal.ensures.equal.0 c.if-not-branch.false))
-
-pub returns-in_default-clause-content : goal.returns-in_default-clause-content
-returns-in_default-clause-content g c =
-    let range = box_of c.args.chunks.now in
-    let a = c.args.a.now in
-    let b = c.args.b.now in
-    let long = range_indices range c.args.chunks.now.same_length c.args.chunks.now.ends_fit (layout_of a).grid.dimensions c.requires.dimensions_a in
-    compares_content (layout_of a) (layout_of b) (g.S1.ReadableStorageTraits.state a.storage) (g.S2.ReadableStorageTraits.state b.storage) (positions range) a.layout.lawful b.layout.lawful long true (search rules) tt
-
-pub returns-then-not-branch-clause-content : goal.returns-then-not-branch-clause-content
-returns-then-not-branch-clause-content g c =
-    let range = box_of c.args.chunks.now in
-    let a = c.args.a.now in
-    let b = c.args.b.now in
-    let long = range_indices range c.args.chunks.now.same_length c.args.chunks.now.ends_fit (layout_of a).grid.dimensions c.requires.dimensions_a in
-    compares_content (layout_of a) (layout_of b) (g.S1.ReadableStorageTraits.state a.storage) (g.S2.ReadableStorageTraits.state b.storage) (positions range) a.layout.lawful b.layout.lawful long false tt (returns-then-not-branch-clause-different g c)
-
-pub returns-then-not-advance-clause-content : goal.returns-then-not-advance-clause-content
-returns-then-not-advance-clause-content g c =
-    let range = box_of c.args.chunks.now in
-    let a = c.args.a.now in
-    let b = c.args.b.now in
-    let long = range_indices range c.args.chunks.now.same_length c.args.chunks.now.ends_fit (layout_of a).grid.dimensions c.requires.dimensions_a in
-    compares_content (layout_of a) (layout_of b) (g.S1.ReadableStorageTraits.state a.storage) (g.S2.ReadableStorageTraits.state b.storage) (positions range) a.layout.lawful b.layout.lawful long true (returns-then-not-advance-clause-equal g c) tt
+    let equal = same_all (layout_of a) (layout_of b) one two chunks (n + 1) last
+    (same_more (layout_of a) (layout_of b) one two chunks n (n + 1) index refl at i.same (c.in_ok-chunk_equal.ensures.equal.0 c.if-not-branch.false)) in
+    record { equal = equal; different = tt; content = compares true equal tt; refused = tt }
 
 pub loop-walk-smaller : goal.loop-walk-smaller
 loop-walk-smaller g c =

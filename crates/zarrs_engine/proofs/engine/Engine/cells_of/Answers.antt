@@ -42,7 +42,7 @@ returns-in-None-clause-cells g c =
     let state = g.S.ReadableStorageTraits.state c.args.self.now.storage in
     let index = c.args.chunk_indices.now in
     both_ok c.fill.result (λ (made : ArrayBytes). cells layout.kind (data_of made) ≡ Some (replicate (position_count (box_at layout.grid index).shape) layout.fill)) (λ (made : ArrayBytes). RetrievesChunk layout index (data_of made) state) _
-    (λ made none is. retrieved_fill layout c.args.self.now.layout.lawful index (data_of made) state (sym c.in-None.is ∙ c.requires.stored) none is) c.fill.ensures.accepted c.fill.ensures.cells
+    (λ made none is. retrieved_fill layout c.args.self.now.layout.lawful index (data_of made) state (sym c.in-None.is ∙ c.requires.stored) none is) c.fill.ensures.accepted c.fill.ensures.answer
 
 pub returns-in-None-clause-refused : goal.returns-in-None-clause-refused
 returns-in-None-clause-refused g c =

@@ -14,6 +14,9 @@ returns-in_err-stored g c =
     let why = read_refused_first layout true index state (refusal_of c.in_err-stored.field-0.0) c.in_err-stored.ensures.refused in
     search (rules, why)
 
+pub stored_at-requires-clause-long : goal.stored_at-requires-clause-long
+stored_at-requires-clause-long g c = (box_is_there (layout_of c.args.self.now).grid c.args.chunk.now.indices.now c.requires.chunk.boxed).long
+
 pub cells_of-requires-clause-long : goal.cells_of-requires-clause-long
 cells_of-requires-clause-long g c = (box_is_there (layout_of c.args.self.now).grid c.args.chunk.now.indices.now c.requires.chunk.boxed).long
 

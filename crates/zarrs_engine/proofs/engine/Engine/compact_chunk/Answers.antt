@@ -11,12 +11,20 @@ use Rattle.zarrs_engine.proofs.Canon.{compact_refused_canon, compacted_canon}
 use Rattle.zarrs_engine.proofs.Compactions.{bytes_refused, key_refused, put_refuses}
 use Rattle.zarrs_engine.proofs.engine.Engine.compact_chunk.Goals as goal
 
+pub returns-in_err-key : goal.returns-in_err-key
+returns-in_err-key g c =
+    let state = g.S.ReadableStorageTraits.state c.args.self.now.storage in
+    let why = key_refused (layout_of c.args.self.now) c.args.chunk_indices.now c.requires.dimensions state refusal.out_of_memory tt in
+    let p = err_from_is_err_and c.from_residual.result c.from_residual.ensures.1 in
+    rw (p.1, p.2, c.in_err-key.ensures.accepted) (record { done = tt; refused = why; compact = λ _. tt; canonical = λ _ canon. canon; refusing = λ _. refl; layout_kept = refl })
+
 pub returns-in_err-encoded : goal.returns-in_err-encoded
 returns-in_err-encoded g c =
     let layout = layout_of c.args.self.now in
     let state = g.S.ReadableStorageTraits.state c.args.self.now.storage in
     let why = key_refused layout c.args.chunk_indices.now c.requires.dimensions state (refusal_of c.in_err-encoded.field-0.0) c.in_err-encoded.ensures.refused in
-    search (rules, why)
+    let p = err_from_is_err_and c.from_residual-in_err-encoded.result c.from_residual-in_err-encoded.ensures.1 in
+    rw (p.1, p.2) (record { done = tt; refused = why; compact = λ _. tt; canonical = λ _ canon. canon; refusing = λ _. refl; layout_kept = refl })
 
 pub returns-in_err-less : goal.returns-in_err-less
 returns-in_err-less g c =
@@ -28,16 +36,6 @@ returns-in_err-less g c =
     let p = err_from_is_err_and c.from_residual-in_err-less.result c.from_residual-in_err-less.ensures.1 in
     rw (p.1, p.2) (record { done = tt; refused = why; compact = λ _. tt; canonical = λ _ canon. canon; refusing = λ _. refl; layout_kept = refl })
 
-pub returns-in_err-key : goal.returns-in_err-key
-returns-in_err-key g c =
-    let layout = layout_of c.args.self.now in
-    let state = g.S.ReadableStorageTraits.state c.args.self.now.storage in
-    let encoded = c.deref.result.now in
-    let at = ap Some c.deref.ensures ∙ sym c.in-Some.is ∙ c.in_ok-encoded.ensures.value in
-    let why = bytes_refused layout c.args.chunk_indices.now c.requires.dimensions encoded state at refusal.out_of_memory c.in_ok-encoded.ensures.asked tt in
-    let p = err_from_is_err_and c.from_residual-in_err-key.result c.from_residual-in_err-key.ensures.1 in
-    rw (p.1, p.2, c.in_err-key.ensures.accepted) (record { done = tt; refused = why; compact = λ _. tt; canonical = λ _ canon. canon; refusing = λ _. refl; layout_kept = refl })
-
 pub returns-in_err-put : goal.returns-in_err-put
 returns-in_err-put g c =
     let layout = layout_of c.args.self.now in
@@ -47,7 +45,7 @@ returns-in_err-put g c =
     let at = ap Some c.deref.ensures ∙ sym c.in-Some.is ∙ c.in_ok-encoded.ensures.value in
     let e = c.in_err-put.field-0.0 in
     let put = subst (λ (r : Refusal). RefusesPut r old new) (sym (storage_said e)) c.in_err-put.ensures.refused in
-    let compacts = c.in_ok-less.ensures.less ∙ ap (λ o. Some (option_map (λ v. v.items) o)) c.in-Some-2.is in
+    let compacts = c.in_ok-less.ensures.answer ∙ ap (λ o. Some (option_map (λ v. v.items) o)) c.in-Some-2.is in
     let why = put_refuses layout c.args.chunk_indices.now c.requires.dimensions encoded old at c.in-Some-2.less.items new _ c.in_ok-less.ensures.accepted compacts put in
     let p = err_from_is_err_and c.from_residual-in_err-put.result c.from_residual-in_err-put.ensures.1 in
     rw (p.1, p.2) (record {

@@ -48,7 +48,7 @@ update_array_bytes-requires-clause-held g c =
 
 pub update_array_bytes-requires-clause-part : goal.update_array_bytes-requires-clause-part
 update_array_bytes-requires-clause-part g c =
-    filled_cells (layout_of c.args.self.now) (box_of c.in-Some.gone) (data_of c.in_ok-filled.filled) c.in_ok-filled.ensures.cells
+    filled_cells (layout_of c.args.self.now) (box_of c.in-Some.gone) (data_of c.in_ok-filled.filled) c.in_ok-filled.ensures.answer
 
 pub returns-clause-filled : goal.returns-clause-filled
 returns-clause-filled g c =
@@ -60,6 +60,6 @@ returns-clause-filled g c =
     let filled = data_of c.in_ok-filled.filled in
     let made = data_of c.in_ok-made.made in
     let is = rw c.in-Some.is at c.in_ok-gone.ensures in
-    let f = subst (λ (b : Box). cells layout.kind filled ≡ Some (replicate (position_count b.shape) layout.fill)) is.1 c.in_ok-filled.ensures.cells in
+    let f = subst (λ (b : Box). cells layout.kind filled ≡ Some (replicate (position_count b.shape) layout.fill)) is.1 c.in_ok-filled.ensures.answer in
     let t = subst (λ (b : Box). TakesCells layout.kind box b filled held made) is.1 c.in_ok-made.ensures in
     filling_made box shape c.args.axis c.args.chunk.now.same_length c.requires.dimensions c.requires.axis c.requires.begins is.0 layout state held filled made c.requires.held f t

@@ -5,14 +5,16 @@ use Rattle.zarrs_data_type.specs.ArrayData.{data_of}
 use Rattle.zarrs_codec_chain.specs.Options.{stores_empty_chunks}
 use Rattle.zarrs_engine_calls.specs.Content.{value_at}
 use Rattle.zarrs_engine_calls.specs.declared.error.ArrayError.{ArrayError}
-use Rattle.zarrs_engine_calls.specs.Refusals.{Refusal, RefusesBy, length_refusal, refusal_of}
+use Rattle.zarrs_engine_calls.specs.Refusals.{refusal_of}
 use Rattle.zarrs_engine_calls.specs.Patches.{IsNotEncoded, RefusesPartly}
-use Rattle.zarrs_engine_calls.proofs.RefusalLemmas.{second_refusal}
-use Rattle.zarrs_engine_layout.proofs.Chunks.{right_length}
 use Rattle.zarrs_engine.specs.Engine.{layout_of}
+use Rattle.zarrs_engine.proofs.Encoded.{key_said}
 use Rattle.zarrs_engine.proofs.PatchRefusals.{encoded_partly, key_partly}
 use Rattle.zarrs_engine.proofs.Puts.{each_error}
 use Rattle.zarrs_engine.proofs.engine.Engine.part_write.Goals as goal
+
+pub stored_at-requires-clause-long : goal.stored_at-requires-clause-long
+stored_at-requires-clause-long g c = (box_is_there (layout_of c.args.self.now).grid c.args.chunk.now.indices.now c.requires.chunk.boxed).long
 
 pub returns-in_err-encoded-clause-refused : goal.returns-in_err-encoded-clause-refused
 returns-in_err-encoded-clause-refused g c =
@@ -21,7 +23,7 @@ returns-in_err-encoded-clause-refused g c =
     let state = g.S.ReadableStorageTraits.state c.args.self.now.storage in
     let index = c.args.chunk.now.indices.now in
     let r = refusal_of c.in_err-encoded.field-0.0 in
-    let of_key = subst (λ (o : Option Refusal). RefusesBy o r) (second_refusal (length_refusal layout index) _ (right_length layout index (box_is_there layout.grid index c.requires.chunk.boxed).long)) c.in_err-encoded.ensures.refused in
+    let of_key = key_said layout index (box_is_there layout.grid index c.requires.chunk.boxed).long state r c.in_err-encoded.ensures.refused in
     let why = key_partly layout keep index (box_of c.args.part.now) (data_of c.args.part_data.now) state r of_key in
     search (rules, why)
 

@@ -1,12 +1,12 @@
 use Rattle.std.proofs.Common.{◌≡◌, ◌∙◌, true, length, refl, rules, subst, sym, ap}
-use Rattle.std.proofs.lemmas.Result.{on_ok_weaker}
+use Rattle.std.proofs.lemmas.Result.{err_from_is_err_and, on_ok_weaker}
 use Rattle.zarrs_subset.specs.Regions.{Box, LiesInShape, box_of, seen_from}
 use Rattle.zarrs_subset.specs.Refusals.{RefusesOffset}
 use Rattle.zarrs_chunk_grid.proofs.Chunks.{box_dimensions}
 use Rattle.zarrs_data_type.specs.ArrayData.{data_of}
 use Rattle.zarrs_codec_chain.specs.Options.{stores_empty_chunks}
 use Rattle.zarrs_engine_calls.specs.Errors.{error_of_subset}
-use Rattle.zarrs_engine_calls.specs.Refusals.{refusal_of}
+use Rattle.zarrs_engine_calls.specs.Refusals.{out_of_memory, refusal_of}
 use Rattle.zarrs_engine_calls.specs.declared.error.ArrayError.{ArrayError}
 use Rattle.zarrs_engine.specs.Engine.{layout_of}
 use Rattle.zarrs_engine.specs.PartStores.{TakesItself}
@@ -29,8 +29,8 @@ returns-in_err-shared g c =
     (length_memory _ _ c.in_err-shared.field-0.0 same c.in_err-shared.ensures.refused) in
     record { done = search rules; refused = search (rules, why); layout_kept = refl }
 
-pub seen_cells-requires-clause-inside : goal.seen_cells-requires-clause-inside
-seen_cells-requires-clause-inside g c =
+pub extract_array_subset-requires-clause-inside : goal.extract_array_subset-requires-clause-inside
+extract_array_subset-requires-clause-inside g c =
     let region = box_of c.args.region.now in
     let chunk = box_of c.args.chunk.now.region in
     let shares = c.requires.meets in
@@ -55,6 +55,16 @@ returns-in_err-part g c =
       layout_kept = refl;
     }
 
+pub returns-in_err-data : goal.returns-in_err-data
+returns-in_err-data g c =
+    let layout = layout_of c.args.self.now in
+    let keep = stores_empty_chunks c.args.options.now in
+    let state = g.S.ReadableStorageTraits.state c.args.self.now.storage in
+    let region = box_of c.args.region.now in
+    let why = memory_leaves layout keep (TakesItself layout true region) region (data_of c.args.region_data.now) c.args.chunk.now.indices.now out_of_memory state refl in
+    let p = err_from_is_err_and c.from_residual-in_err-data.result c.from_residual-in_err-data.ensures.1 in
+    rw (p.1, p.2) (record { done = tt; refused = why; layout_kept = refl })
+
 pub patch_chunk-requires-clause-part : goal.patch_chunk-requires-clause-part
 patch_chunk-requires-clause-part g c =
     let region = box_of c.args.region.now in
@@ -62,7 +72,7 @@ patch_chunk-requires-clause-part g c =
     let shared = box_of c.in_ok-shared.shared in
     let part = box_of c.in_ok-part.part in
     let shares = c.requires.meets in
-    let part_is : part ≡ seen_from shared chunk.start = c.in_ok-part.ensures.seen ∙ ap (λ start. seen_from shared start) c.start-origin.ensures in
+    let part_is : part ≡ seen_from shared chunk.start = c.in_ok-part.ensures.value ∙ ap (λ start. seen_from shared start) c.start-origin.ensures in
     subst (λ (b : Box). LiesInShape part b.shape) c.requires.chunk.region
     (part_inside region chunk shared part c.args.region.now.same_length c.args.chunk.now.region.same_length c.in_ok-shared.ensures.dimensions c.in_ok-shared.ensures.value shares part_is)
 
@@ -76,22 +86,22 @@ returns g c =
     let shared = box_of c.in_ok-shared.shared in
     let part = box_of c.in_ok-part.part in
     let shares = c.requires.meets in
-    let part_is : part ≡ seen_from shared chunk.start = c.in_ok-part.ensures.seen ∙ ap (λ start. seen_from shared start) c.start-origin.ensures in
+    let part_is : part ≡ seen_from shared chunk.start = c.in_ok-part.ensures.value ∙ ap (λ start. seen_from shared start) c.start-origin.ensures in
     let itself : TakesItself layout true region index = (refl, c.requires.part) in
     let old = g.S.ReadableStorageTraits.state c.args.self.now.storage in
     let new = g.S.ReadableStorageTraits.state c.patch_chunk.new.self.storage in
     let held = data_of c.args.region_data.now in
-    let taken = data_of c.in_ok-part.data in
+    let taken = data_of c.in_ok-data.data in
     record {
       done =
           on_ok_weaker c.patch_chunk.result (patched_shared region chunk shared part c.args.region.now.same_length c.args.chunk.now.region.same_length c.in_ok-shared.ensures.dimensions c.in_ok-shared.ensures.value shares part_is
-          layout keep (TakesItself layout true region) index itself c.requires.chunk.region (data_of c.args.region_data.now) (data_of c.in_ok-part.data) c.in_ok-part.ensures.cells old new c.requires.given)
+          layout keep (TakesItself layout true region) index itself c.requires.chunk.region (data_of c.args.region_data.now) (data_of c.in_ok-data.data) c.in_ok-data.ensures old new c.requires.given)
           c.patch_chunk.ensures.done;
       refused =
           each_error c.patch_chunk.result (λ (e : ArrayError). LeavesPartly layout keep index part taken (refusal_of e) old new)
           (λ (e : ArrayError). LeavesPatch layout keep (TakesItself layout true region) region held index (refusal_of e) old new)
           (λ e l. shared_left region chunk shared part c.args.region.now.same_length c.args.chunk.now.region.same_length c.in_ok-shared.ensures.dimensions c.in_ok-shared.ensures.value shares part_is
-          layout keep (TakesItself layout true region) index itself c.requires.chunk.region held taken c.in_ok-part.ensures.cells old new (refusal_of e) l)
+          layout keep (TakesItself layout true region) index itself c.requires.chunk.region held taken c.in_ok-data.ensures old new (refusal_of e) l)
           c.patch_chunk.ensures.refused;
       layout_kept = c.patch_chunk.ensures.layout_kept;
     }

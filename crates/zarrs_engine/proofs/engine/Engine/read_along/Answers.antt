@@ -15,7 +15,7 @@ with_chunk-requires-clause-boxed g c =
     let n = walk_number c.loop-walk.walk in
     let index = c.current.result.now in
     let at = subst (λ (b : Box). slice_get (positions b) n ≡ Some index) c.loop-walk.invariant.same_box c.current.ensures in
-    c.requires.cover.boxed index (at_among chunks n index at)
+    c.requires.over.cover.boxed index (at_among chunks n index at)
 
 pub with_chunk-requires-clause-held : goal.with_chunk-requires-clause-held
 with_chunk-requires-clause-held g c =
@@ -27,7 +27,7 @@ with_chunk-requires-clause-ask g c =
     let n = walk_number c.loop-walk.walk in
     let index = c.current.result.now in
     let at = subst (λ (b : Box). slice_get (positions b) n ≡ Some index) c.loop-walk.invariant.same_box c.current.ensures in
-    c.requires.ask index (at_among chunks n index at)
+    c.requires.over.ask index (at_among chunks n index at)
 
 pub loop-walk-smaller : goal.loop-walk-smaller
 loop-walk-smaller g c =

@@ -44,7 +44,7 @@ read_chunk_into-requires-clause-boxed g c =
     let n = walk_number c.loop-walk.walk in
     let index = c.current.result.now in
     let at = subst (λ (b : Box). slice_get (positions b) n ≡ Some index) c.loop-walk.invariant.same_box c.current.ensures in
-    c.requires.cover.boxed index (at_among chunks n index at)
+    c.requires.over.cover.boxed index (at_among chunks n index at)
 
 pub read_chunk_into-requires-clause-ask : goal.read_chunk_into-requires-clause-ask
 read_chunk_into-requires-clause-ask g c =
@@ -52,7 +52,7 @@ read_chunk_into-requires-clause-ask g c =
     let n = walk_number c.loop-walk.walk in
     let index = c.current.result.now in
     let at = subst (λ (b : Box). slice_get (positions b) n ≡ Some index) c.loop-walk.invariant.same_box c.current.ensures in
-    c.requires.ask index (at_among chunks n index at)
+    c.requires.over.ask index (at_among chunks n index at)
 
 pub read_chunk_into-requires-clause-target : goal.read_chunk_into-requires-clause-target
 read_chunk_into-requires-clause-target g c =

@@ -27,7 +27,7 @@ returns-then-is_empty-clause-read g c =
     IfOk-weaker c.filled.result (λ (made : ArrayBytes). cells layout.kind (data_of made) ≡ Some (replicate (position_count part.shape) layout.fill))
     (λ (made : ArrayBytes). (region : Box) → IsRegionOf layout index part region → HasRead layout region (index ∷ []) state (data_of made))
     (λ made are region is. filled_read layout lawful index c.requires.boxed part region state is (data_of made) are (region_empty layout lawful index c.requires.boxed part region state is none))
-    c.filled.ensures.cells
+    c.filled.ensures.answer
 
 pub returns-then-is_empty-clause-refused : goal.returns-then-is_empty-clause-refused
 returns-then-is_empty-clause-refused g c =
@@ -70,7 +70,7 @@ returns-in-None-clause-read g c =
     IfOk-weaker c.filled-in-None.result (λ (made : ArrayBytes). cells layout.kind (data_of made) ≡ Some (replicate (position_count part.shape) layout.fill))
     (λ (made : ArrayBytes). (region : Box) → IsRegionOf layout index part region → HasRead layout region (index ∷ []) state (data_of made))
     (λ made are region is. filled_read layout lawful index c.requires.boxed part region state is (data_of made) are (region_absent layout lawful index c.requires.boxed part region state is absent))
-    c.filled-in-None.ensures.cells
+    c.filled-in-None.ensures.answer
 
 pub returns-in-None-clause-refused : goal.returns-in-None-clause-refused
 returns-in-None-clause-refused g c =

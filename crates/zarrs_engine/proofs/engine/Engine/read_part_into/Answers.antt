@@ -126,7 +126,7 @@ decode_part_into-done-requires-clause-part g c =
     let index = c.args.chunk_indices.now in
     let chunk = box_at layout.grid index in
     let shared = rw c.in-Some-2.is at c.in_ok-part.ensures.some in
-    subst (λ (s : List ℕ). LiesInShape (box_of c.in-Some-2.part) s) (sym (c.as_slice-shape.ensures ∙ c.in_ok-extents.ensures.shape)) shared.lies
+    subst (λ (s : List ℕ). LiesInShape (box_of c.in-Some-2.part) s) (sym (c.as_slice-shape.ensures ∙ c.in_ok-extents.ensures.answer)) shared.lies
 
 pub decode_part_into-done-requires-clause-may_read : goal.decode_part_into-done-requires-clause-may_read
 decode_part_into-done-requires-clause-may_read g c = λ place needed.
@@ -141,7 +141,7 @@ decode_part_into-done-requires-clause-may_read g c = λ place needed.
     let found = source_value (state_of_source source) state (key_of_source source) (layout.key index) source.size state_is key_is source.sized in
     let part = box_of c.in-Some-2.part in
     let shared = rw c.in-Some-2.is at c.in_ok-part.ensures.some in
-    let shape : c.as_slice-shape.result.now ≡ chunk.shape = c.as_slice-shape.ensures ∙ c.in_ok-extents.ensures.shape in
+    let shape : c.as_slice-shape.result.now ≡ chunk.shape = c.as_slice-shape.ensures ∙ c.in_ok-extents.ensures.answer in
     let words = index_list layout c.args.self.now.layout.lawful index c.requires.boxed in
     let there = subst (λ (b : Box). layout.chain.places layout.kind chunk.shape b found.0 place ≡ true) shared.part_is
     (subst (λ (s : List ℕ). layout.chain.places layout.kind s part found.0 place ≡ true) shape
@@ -190,7 +190,7 @@ returns g c =
     let found = source_value (state_of_source source) state (key_of_source source) (layout.key index) source.size state_is key_is source.sized in
     let part = box_of c.in-Some-2.part in
     let shared = rw c.in-Some-2.is at c.in_ok-part.ensures.some in
-    let shape : c.as_slice-shape.result.now ≡ chunk.shape = c.as_slice-shape.ensures ∙ c.in_ok-extents.ensures.shape in
+    let shape : c.as_slice-shape.result.now ≡ chunk.shape = c.as_slice-shape.ensures ∙ c.in_ok-extents.ensures.answer in
     let bytes = value_or_empty (state_of_source source) (key_of_source source) in
     let same : (state_of_source source).refuses (key_of_source source) ≡ state.refuses (layout.key index) =
     ap (λ (s : StoreState). s.refuses (key_of_source source)) state_is ∙ ap state.refuses key_is in

@@ -33,12 +33,15 @@ returns-in_err-chunks g c =
     let kept = keeps_itself t in
     search (rules, why, kept)
 
-pub read_into-requires-clause-ask : goal.read_into-requires-clause-ask
-read_into-requires-clause-ask g c =
+pub read_into-requires-clause-over : goal.read_into-requires-clause-over
+read_into-requires-clause-over g c =
     let layout = layout_of c.args.self.now in
     let state = g.S.ReadableStorageTraits.state c.args.self.now.storage in
-    subst (λ (b : Box). MayReadParts layout (box_of c.args.array_subset.now) (positions b) state) (sym c.in_ok-chunks.ensures.chunks)
-    (c.requires c.in_ok-chunks.ensures.accepted)
+    let chunks = c.in_ok-chunks.ensures in
+    record {
+      cover = chunks.answer.cover;
+      ask = subst (λ (b : Box). MayReadParts layout (box_of c.args.array_subset.now) (positions b) state) (sym chunks.answer.chunks) (c.requires chunks.accepted);
+    }
 
 pub read_into-requires-clause-filled : goal.read_into-requires-clause-filled
 read_into-requires-clause-filled g c = λ is. absurd (false≢true is)
@@ -58,8 +61,8 @@ returns g c =
     let region = box_of c.args.array_subset.now in
     let chunks = box_of c.in_ok-chunks.chunks in
     let e = c.in_ok-check_target.ensures in
-    let is = c.in_ok-chunks.ensures.chunks in
-    let cover = subst (λ (b : Box). CoverRegion layout.grid region (positions b)) is c.in_ok-chunks.ensures.cover in
+    let is = c.in_ok-chunks.ensures.answer.chunks in
+    let cover = subst (λ (b : Box). CoverRegion layout.grid region (positions b)) is c.in_ok-chunks.ensures.answer.cover in
     let accepted = target_region layout c.args.self.now.layout.lawful region t shape e.dimensions e.target.takes e.target.same_shape ∙ c.in_ok-chunks.ensures.accepted in
     let all = λ (read : HasReadInto layout region (positions chunks) state (parent_box t) (target_box t) (data_of_target new)).
     subst (λ (b : Box). HasReadInto layout region (positions b) state (parent_box t) (target_box t) (data_of_target new)) is read in

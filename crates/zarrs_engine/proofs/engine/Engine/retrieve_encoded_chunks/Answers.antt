@@ -58,7 +58,7 @@ returns-then-not-advance-clause-values g c =
     let at = subst (λ (b : Box). slice_get (positions b) n ≡ Some index) i.same_box c.current.ensures in
     let last = subst (λ (b : Box). n + 1 ≡ length (positions b)) i.same_box c.if-not-advance.ensures.last in
     values_all layout state chunks (n + 1) _ last
-    (values_more layout state chunks (option_map (λ v. v.items)) n (n + 1) index _ _ _ refl at i.read c.in_ok-push.ensures.items c.in_ok-value.ensures.value)
+    (values_more layout state chunks (option_map (λ v. v.items)) n (n + 1) index _ _ _ refl at i.read c.in_ok-push.ensures.items c.in_ok-value.ensures.answer)
 
 pub loop-walk-preserved : goal.loop-walk-preserved
 loop-walk-preserved g c =
@@ -71,7 +71,7 @@ loop-walk-preserved g c =
     let at = subst (λ (b : Box). slice_get (positions b) n ≡ Some index) i.same_box c.current.ensures in
     record {
       same_box = c.if-not-advance.ensures.same_box ∙ i.same_box;
-      read = values_more layout state chunks (option_map (λ v. v.items)) n _ index _ _ _ c.if-not-advance.ensures.next at i.read c.in_ok-push.ensures.items c.in_ok-value.ensures.value;
+      read = values_more layout state chunks (option_map (λ v. v.items)) n _ index _ _ _ c.if-not-advance.ensures.next at i.read c.in_ok-push.ensures.items c.in_ok-value.ensures.answer;
     }
 
 pub returns-then-is_err-clause-refused : goal.returns-then-is_err-clause-refused

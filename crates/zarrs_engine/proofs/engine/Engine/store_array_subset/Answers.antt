@@ -71,7 +71,7 @@ returns-in_err-is_chunk g c =
 pub store_along-requires-clause-ask : goal.store_along-requires-clause-ask
 store_along-requires-clause-ask g c =
     subst (λ (b : Box). MayAskParts (layout_of c.args.self.now) (box_of c.args.array_subset.now) (positions b) (g.S.ReadableStorageTraits.state c.args.self.now.storage))
-    (sym c.in_ok-chunks.ensures.chunks) (c.requires c.in_ok-chunks.ensures.accepted)
+    (sym c.in_ok-chunks.ensures.answer.chunks) (c.requires c.in_ok-chunks.ensures.accepted)
 
 pub store_along-requires-clause-supported : goal.store_along-requires-clause-supported
 store_along-requires-clause-supported g c = λ is.
@@ -82,9 +82,9 @@ pub store_along-requires-clause-meets : goal.store_along-requires-clause-meets
 store_along-requires-clause-meets g c = λ is.
     let layout = layout_of c.args.self.now in
     let region = box_of c.args.array_subset.now in
-    let cover = c.in_ok-chunks.ensures.cover in
+    let cover = c.in_ok-chunks.ensures.answer.cover in
     λ index among. shares layout.grid c.args.self.now.layout.lawful.grid region c.args.array_subset.now.same_length cover.dimensions cover.covered index
-    (subst (λ (b : Box). Contains (positions b) index) c.in_ok-chunks.ensures.chunks among)
+    (subst (λ (b : Box). Contains (positions b) index) c.in_ok-chunks.ensures.answer.chunks among)
 
 pub returns : goal.returns
 returns g c =
@@ -97,7 +97,7 @@ returns g c =
     let held = data_of c.args.subset_data.now in
     let old = g.S.ReadableStorageTraits.state c.args.self.now.storage in
     let range = box_of c.in_ok-chunks.chunks in
-    let at : range ≡ met layout.grid region = c.in_ok-chunks.ensures.chunks in
+    let at : range ≡ met layout.grid region = c.in_ok-chunks.ensures.answer.chunks in
     let first = store_region_refusal layout shape region held in
     let fits = subst (λ b. box_data_refusal layout b region.shape held ≡ None) c.in_ok-is_chunk.ensures.one c.in_ok-check_cells.ensures.accepted in
     let none : first ≡ None = second_refusal (region_refusal layout shape region) _ c.in_ok-chunks.ensures.accepted ∙ fits in

@@ -91,10 +91,10 @@ returns-in_err-check_cells g c =
     let part = box_of c.args.chunk_subset.now in
     let held = data_of c.args.chunk_subset_data.now in
     let chunk = c.in_ok-chunk.ensures in
-    let chunk_is = chunk.chunk.region ∙ ap (λ i. box_at layout.grid i) chunk.indices in
+    let chunk_is = chunk.answer.chunk.region ∙ ap (λ i. box_at layout.grid i) chunk.answer.indices in
     let region = c.in_ok-region.ensures in
     let r = refusal_of c.in_err-check_cells.field-0.0 in
-    let first = data_refuses layout c.args.self.now.layout.lawful index part (box_of c.in_ok-chunk.chunk.region) (box_of c.in_ok-region.region) c.args.chunk_subset.now.same_length chunk_is region.part chunk.accepted region.accepted held c.eq.result c.eq.ensures r
+    let first = data_refuses layout c.args.self.now.layout.lawful index part (box_of c.in_ok-chunk.chunk.region) (box_of c.in_ok-region.region) c.args.chunk_subset.now.same_length chunk_is region.answer chunk.accepted region.accepted held c.eq.result c.eq.ensures r
     (refuses_said _ r c.in_err-check_cells.ensures.refused) in
     let why = stores_early layout index part held keep state r first in
     let partly = patch_early layout keep asked index part held r state first in
@@ -109,9 +109,9 @@ store_whole-requires-clause-dimensions g c =
     let part = box_of c.args.chunk_subset.now in
     let held = data_of c.args.chunk_subset_data.now in
     let chunk = c.in_ok-chunk.ensures in
-    let chunk_is = chunk.chunk.region ∙ ap (λ i. box_at layout.grid i) chunk.indices in
+    let chunk_is = chunk.answer.chunk.region ∙ ap (λ i. box_at layout.grid i) chunk.answer.indices in
     let region = c.in_ok-region.ensures in
-    (part_cover layout c.args.self.now.layout.lawful index part (box_of c.in_ok-chunk.chunk.region) (box_of c.in_ok-region.region) c.args.chunk_subset.now.same_length chunk_is region.part chunk.accepted region.accepted).dimensions
+    (part_cover layout c.args.self.now.layout.lawful index part (box_of c.in_ok-chunk.chunk.region) (box_of c.in_ok-region.region) c.args.chunk_subset.now.same_length chunk_is region.answer chunk.accepted region.accepted).dimensions
 
 pub store_whole-requires-clause-covered : goal.store_whole-requires-clause-covered
 store_whole-requires-clause-covered g c =
@@ -122,9 +122,9 @@ store_whole-requires-clause-covered g c =
     let part = box_of c.args.chunk_subset.now in
     let held = data_of c.args.chunk_subset_data.now in
     let chunk = c.in_ok-chunk.ensures in
-    let chunk_is = chunk.chunk.region ∙ ap (λ i. box_at layout.grid i) chunk.indices in
+    let chunk_is = chunk.answer.chunk.region ∙ ap (λ i. box_at layout.grid i) chunk.answer.indices in
     let region = c.in_ok-region.ensures in
-    (part_cover layout c.args.self.now.layout.lawful index part (box_of c.in_ok-chunk.chunk.region) (box_of c.in_ok-region.region) c.args.chunk_subset.now.same_length chunk_is region.part chunk.accepted region.accepted).covered
+    (part_cover layout c.args.self.now.layout.lawful index part (box_of c.in_ok-chunk.chunk.region) (box_of c.in_ok-region.region) c.args.chunk_subset.now.same_length chunk_is region.answer chunk.accepted region.accepted).covered
 
 pub store_whole-requires-clause-ask : goal.store_whole-requires-clause-ask
 store_whole-requires-clause-ask g c =
@@ -135,11 +135,11 @@ store_whole-requires-clause-ask g c =
     let part = box_of c.args.chunk_subset.now in
     let held = data_of c.args.chunk_subset_data.now in
     let chunk = c.in_ok-chunk.ensures in
-    let chunk_is = chunk.chunk.region ∙ ap (λ i. box_at layout.grid i) chunk.indices in
+    let chunk_is = chunk.answer.chunk.region ∙ ap (λ i. box_at layout.grid i) chunk.answer.indices in
     let region = c.in_ok-region.ensures in
-    let asked = stored_ask_part layout c.args.self.now.layout.lawful index part (box_of c.in_ok-chunk.chunk.region) (box_of c.in_ok-region.region) c.args.chunk_subset.now.same_length chunk_is region.part chunk.accepted region.accepted held state
+    let asked = stored_ask_part layout c.args.self.now.layout.lawful index part (box_of c.in_ok-chunk.chunk.region) (box_of c.in_ok-region.region) c.args.chunk_subset.now.same_length chunk_is region.answer chunk.accepted region.accepted held state
     (c.requires chunk.accepted region.accepted) in
-    subst (λ (i : List ℕ). MayAskParts layout (box_of c.in_ok-region.region) (i ∷ []) state) (sym chunk.indices) asked
+    subst (λ (i : List ℕ). MayAskParts layout (box_of c.in_ok-region.region) (i ∷ []) state) (sym chunk.answer.indices) asked
 
 pub returns : goal.returns
 returns g c =
@@ -152,21 +152,21 @@ returns g c =
     let held = data_of c.args.chunk_subset_data.now in
     let lawful = c.args.self.now.layout.lawful in
     let chunk = c.in_ok-chunk.ensures in
-    let chunk_is = chunk.chunk.region ∙ ap (λ i. box_at layout.grid i) chunk.indices in
+    let chunk_is = chunk.answer.chunk.region ∙ ap (λ i. box_at layout.grid i) chunk.answer.indices in
     let region = c.in_ok-region.ensures in
     let here = part_box (box_at layout.grid index) part in
-    let at = stored_at layout lawful index part (box_of c.in_ok-chunk.chunk.region) (box_of c.in_ok-region.region) c.args.chunk_subset.now.same_length chunk_is region.part chunk.accepted region.accepted held in
+    let at = stored_at layout lawful index part (box_of c.in_ok-chunk.chunk.region) (box_of c.in_ok-region.region) c.args.chunk_subset.now.same_length chunk_is region.answer chunk.accepted region.accepted held in
     let boxed = chunk_has layout index chunk.accepted in
-    let dimensions = (part_cover layout lawful index part (box_of c.in_ok-chunk.chunk.region) (box_of c.in_ok-region.region) c.args.chunk_subset.now.same_length chunk_is region.part chunk.accepted region.accepted).dimensions in
+    let dimensions = (part_cover layout lawful index part (box_of c.in_ok-chunk.chunk.region) (box_of c.in_ok-region.region) c.args.chunk_subset.now.same_length chunk_is region.answer chunk.accepted region.accepted).dimensions in
     let new = g.S.ReadableStorageTraits.state c.store_whole.new.self.storage in
     let fits = c.in_ok-check_cells.ensures in
-    let e = subst (λ (i : List ℕ). Writes refusal_of g.S.ReadableStorageTraits.state (StoresOneMore layout keep (box_of c.in_ok-region.region) held i) (LeavesPart layout keep (box_of c.in_ok-region.region) held i) c.args.self.now c.store_whole.new.self c.store_whole.result) chunk.indices c.store_whole.ensures in
+    let e = subst (λ (i : List ℕ). Writes refusal_of g.S.ReadableStorageTraits.state (StoresOneMore layout keep (box_of c.in_ok-region.region) held i) (LeavesPart layout keep (box_of c.in_ok-region.region) held i) c.args.self.now c.store_whole.new.self c.store_whole.result) chunk.answer.indices c.store_whole.ensures in
     let done : OnOk c.store_whole.result (StoresPart layout keep index part held state new) =
-    on_ok_weaker c.store_whole.result (takes_part layout lawful index part (box_of c.in_ok-chunk.chunk.region) (box_of c.in_ok-region.region) c.args.chunk_subset.now.same_length chunk_is region.part chunk.accepted region.accepted held c.eq.result c.eq.ensures keep fits.accepted fits.given state new) e.done in
+    on_ok_weaker c.store_whole.result (takes_part layout lawful index part (box_of c.in_ok-chunk.chunk.region) (box_of c.in_ok-region.region) c.args.chunk_subset.now.same_length chunk_is region.answer chunk.accepted region.accepted held c.eq.result c.eq.ensures keep fits.accepted fits.given state new) e.done in
     let refused : IfErr c.store_whole.result (λ (e : ArrayError). RefusesStorePart layout keep index part held (refusal_of e) state new) =
     each_error c.store_whole.result (λ (e : ArrayError). LeavesPart layout keep (box_of c.in_ok-region.region) held index (refusal_of e) state new)
     (λ (e : ArrayError). RefusesStorePart layout keep index part held (refusal_of e) state new)
-    (λ e left. takes_none layout lawful index part (box_of c.in_ok-chunk.chunk.region) (box_of c.in_ok-region.region) c.args.chunk_subset.now.same_length chunk_is region.part chunk.accepted region.accepted held c.eq.result c.eq.ensures keep fits.accepted fits.given state new (refusal_of e) left)
+    (λ e left. takes_none layout lawful index part (box_of c.in_ok-chunk.chunk.region) (box_of c.in_ok-region.region) c.args.chunk_subset.now.same_length chunk_is region.answer chunk.accepted region.accepted held c.eq.result c.eq.ensures keep fits.accepted fits.given state new (refusal_of e) left)
     e.refused in
     let not : IsPatched layout asked here state index → ⊥ = λ is.
     let proper : LiesInBox (box_of c.in_ok-chunk.chunk.region) (box_of c.in_ok-region.region) → ⊥ = λ lies.
@@ -200,7 +200,7 @@ patch_chunk-requires-clause-supported g c =
 pub patch_chunk-requires-clause-part : goal.patch_chunk-requires-clause-part
 patch_chunk-requires-clause-part g c =
     let layout = layout_of c.args.self.now in
-    subst (λ (i : List ℕ). LiesInShape (box_of c.args.chunk_subset.now) (box_at layout.grid i).shape) (sym c.in_ok-chunk.ensures.indices)
+    subst (λ (i : List ℕ). LiesInShape (box_of c.args.chunk_subset.now) (box_at layout.grid i).shape) (sym c.in_ok-chunk.ensures.answer.indices)
     (part_lies layout c.args.chunk_indices.now (box_of c.args.chunk_subset.now) c.in_ok-region.ensures.accepted)
 
 pub patch_chunk-requires-clause-ask : goal.patch_chunk-requires-clause-ask
@@ -214,18 +214,18 @@ patch_chunk-requires-clause-ask g c =
     let held = data_of c.args.chunk_subset_data.now in
     let lawful = c.args.self.now.layout.lawful in
     let chunk = c.in_ok-chunk.ensures in
-    let chunk_is = chunk.chunk.region ∙ ap (λ i. box_at layout.grid i) chunk.indices in
+    let chunk_is = chunk.answer.chunk.region ∙ ap (λ i. box_at layout.grid i) chunk.answer.indices in
     let region = c.in_ok-region.ensures in
     let here = part_box (box_at layout.grid index) part in
-    let at = stored_at layout lawful index part (box_of c.in_ok-chunk.chunk.region) (box_of c.in_ok-region.region) c.args.chunk_subset.now.same_length chunk_is region.part chunk.accepted region.accepted held in
+    let at = stored_at layout lawful index part (box_of c.in_ok-chunk.chunk.region) (box_of c.in_ok-region.region) c.args.chunk_subset.now.same_length chunk_is region.answer chunk.accepted region.accepted held in
     let boxed = chunk_has layout index chunk.accepted in
-    let dimensions = (part_cover layout lawful index part (box_of c.in_ok-chunk.chunk.region) (box_of c.in_ok-region.region) c.args.chunk_subset.now.same_length chunk_is region.part chunk.accepted region.accepted).dimensions in
+    let dimensions = (part_cover layout lawful index part (box_of c.in_ok-chunk.chunk.region) (box_of c.in_ok-region.region) c.args.chunk_subset.now.same_length chunk_is region.answer chunk.accepted region.accepted).dimensions in
     let region_box = box_of c.in_ok-region.region in
     let proper : IsPart layout region_box index = λ covers.
     let lies = covers_lies layout.grid lawful.grid index boxed region_box c.in_ok-region.region.same_length dimensions covers in
     (c.writes_part.ensures.0 c.if-writes_part.true).1 (subst (λ (b : Box). LiesInBox b region_box) (sym chunk_is) lies) in
-    let asked : MayAskChunk layout index state = stored_ask_part layout lawful index part (box_of c.in_ok-chunk.chunk.region) (box_of c.in_ok-region.region) c.args.chunk_subset.now.same_length chunk_is region.part chunk.accepted region.accepted held state (c.requires chunk.accepted region.accepted) index (member index) proper in
-    subst (λ (i : List ℕ). MayAskChunk layout i state) (sym chunk.indices) asked
+    let asked : MayAskChunk layout index state = stored_ask_part layout lawful index part (box_of c.in_ok-chunk.chunk.region) (box_of c.in_ok-region.region) c.args.chunk_subset.now.same_length chunk_is region.answer chunk.accepted region.accepted held state (c.requires chunk.accepted region.accepted) index (member index) proper in
+    subst (λ (i : List ℕ). MayAskChunk layout i state) (sym chunk.answer.indices) asked
 
 pub returns-then-writes_part : goal.returns-then-writes_part
 returns-then-writes_part g c =
@@ -238,12 +238,12 @@ returns-then-writes_part g c =
     let held = data_of c.args.chunk_subset_data.now in
     let lawful = c.args.self.now.layout.lawful in
     let chunk = c.in_ok-chunk.ensures in
-    let chunk_is = chunk.chunk.region ∙ ap (λ i. box_at layout.grid i) chunk.indices in
+    let chunk_is = chunk.answer.chunk.region ∙ ap (λ i. box_at layout.grid i) chunk.answer.indices in
     let region = c.in_ok-region.ensures in
     let here = part_box (box_at layout.grid index) part in
-    let at = stored_at layout lawful index part (box_of c.in_ok-chunk.chunk.region) (box_of c.in_ok-region.region) c.args.chunk_subset.now.same_length chunk_is region.part chunk.accepted region.accepted held in
+    let at = stored_at layout lawful index part (box_of c.in_ok-chunk.chunk.region) (box_of c.in_ok-region.region) c.args.chunk_subset.now.same_length chunk_is region.answer chunk.accepted region.accepted held in
     let boxed = chunk_has layout index chunk.accepted in
-    let dimensions = (part_cover layout lawful index part (box_of c.in_ok-chunk.chunk.region) (box_of c.in_ok-region.region) c.args.chunk_subset.now.same_length chunk_is region.part chunk.accepted region.accepted).dimensions in
+    let dimensions = (part_cover layout lawful index part (box_of c.in_ok-chunk.chunk.region) (box_of c.in_ok-region.region) c.args.chunk_subset.now.same_length chunk_is region.answer chunk.accepted region.accepted).dimensions in
     let region_box = box_of c.in_ok-region.region in
     let new = g.S.ReadableStorageTraits.state c.patch_chunk.new.self.storage in
     let fits = c.in_ok-check_cells.ensures in
@@ -254,14 +254,14 @@ returns-then-writes_part g c =
     let within = covers_lies layout.grid lawful.grid index boxed region_box c.in_ok-region.region.same_length dimensions covers in
     takes.1 (subst (λ (b : Box). LiesInBox b region_box) (sym chunk_is) within) in
     let is : IsPatched layout asked here state index = (takes.0, subst (λ (b : Box). IsPart layout b index) at proper) in
-    let e = subst (λ (i : List ℕ). Writes refusal_of g.S.ReadableStorageTraits.state (PatchesChunk layout keep i part held) (LeavesPartly layout keep i part held) c.args.self.now c.patch_chunk.new.self c.patch_chunk.result) chunk.indices c.patch_chunk.ensures in
+    let e = subst (λ (i : List ℕ). Writes refusal_of g.S.ReadableStorageTraits.state (PatchesChunk layout keep i part held) (LeavesPartly layout keep i part held) c.args.self.now c.patch_chunk.new.self c.patch_chunk.result) chunk.answer.indices c.patch_chunk.ensures in
     record {
       whole = λ off. absurd (false≢true (sym off ∙ takes.0));
       partly = record {
-        done = on_ok_weaker c.patch_chunk.result (patched_part layout lawful index part (box_of c.in_ok-chunk.chunk.region) (box_of c.in_ok-region.region) c.args.chunk_subset.now.same_length chunk_is region.part chunk.accepted region.accepted held c.eq.result c.eq.ensures fits.accepted state new keep asked is) e.done;
+        done = on_ok_weaker c.patch_chunk.result (patched_part layout lawful index part (box_of c.in_ok-chunk.chunk.region) (box_of c.in_ok-region.region) c.args.chunk_subset.now.same_length chunk_is region.answer chunk.accepted region.accepted held c.eq.result c.eq.ensures fits.accepted state new keep asked is) e.done;
         refused = each_error c.patch_chunk.result (λ (e : ArrayError). LeavesPartly layout keep index part held (refusal_of e) state new)
             (λ (e : ArrayError). RefusesPatchPart layout keep asked index part held (refusal_of e) state new)
-            (λ e left. patched_left layout lawful index part (box_of c.in_ok-chunk.chunk.region) (box_of c.in_ok-region.region) c.args.chunk_subset.now.same_length chunk_is region.part chunk.accepted region.accepted held c.eq.result c.eq.ensures fits.accepted state new keep asked is lies given (refusal_of e) left)
+            (λ e left. patched_left layout lawful index part (box_of c.in_ok-chunk.chunk.region) (box_of c.in_ok-region.region) c.args.chunk_subset.now.same_length chunk_is region.answer chunk.accepted region.accepted held c.eq.result c.eq.ensures fits.accepted state new keep asked is lies given (refusal_of e) left)
             e.refused;
         layout_kept = e.layout_kept;
       };

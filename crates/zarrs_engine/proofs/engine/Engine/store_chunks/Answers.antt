@@ -91,7 +91,7 @@ returns-in_err-check_cells g c =
     let shape = g.G.ChunkGridTraits.array_extents c.args.self.now.layout.grid in
     let region = c.in_ok-region.ensures in
     let one = ap (λ n. n == 1) c.in-Ok.ensures.ok in
-    let why = range_data layout c.args.self.now.layout.lawful keep range (box_of c.in_ok-region.region) held (c.args.chunks.now.same_length) dimensions small some shape region.region region.cover region.accepted (c.in-Ok.number == 1) one state (refusal_of c.in_err-check_cells.field-0.0) (refuses_said _ (refusal_of c.in_err-check_cells.field-0.0) c.in_err-check_cells.ensures.refused) in
+    let why = range_data layout c.args.self.now.layout.lawful keep range (box_of c.in_ok-region.region) held (c.args.chunks.now.same_length) dimensions small some shape region.answer.region region.answer.cover region.accepted (c.in-Ok.number == 1) one state (refusal_of c.in_err-check_cells.field-0.0) (refuses_said _ (refusal_of c.in_err-check_cells.field-0.0) c.in_err-check_cells.ensures.refused) in
     search (rules, why)
 
 pub store_along-requires-clause-ask : goal.store_along-requires-clause-ask
@@ -107,7 +107,7 @@ store_along-requires-clause-ask g c =
     let shape = g.G.ChunkGridTraits.array_extents c.args.self.now.layout.grid in
     let region = c.in_ok-region.ensures in
     let one = ap (λ n. n == 1) c.in-Ok.ensures.ok in
-    range_ask layout c.args.self.now.layout.lawful keep range (box_of c.in_ok-region.region) held (c.args.chunks.now.same_length) dimensions small some shape region.region region.cover region.accepted state
+    range_ask layout c.args.self.now.layout.lawful keep range (box_of c.in_ok-region.region) held (c.args.chunks.now.same_length) dimensions small some shape region.answer.region region.answer.cover region.accepted state
 
 pub returns : goal.returns
 returns g c =
@@ -124,14 +124,14 @@ returns g c =
     let one = ap (λ n. n == 1) c.in-Ok.ensures.ok in
     let new = g.S.ReadableStorageTraits.state c.store_along.new.self.storage in
     let first = store_chunks_refusal layout range held in
-    let none = range_first_none layout c.args.self.now.layout.lawful keep range (box_of c.in_ok-region.region) held (c.args.chunks.now.same_length) dimensions small some shape region.region region.cover region.accepted (c.in-Ok.number == 1) one c.in_ok-check_cells.ensures.accepted state new in
+    let none = range_first_none layout c.args.self.now.layout.lawful keep range (box_of c.in_ok-region.region) held (c.args.chunks.now.same_length) dimensions small some shape region.answer.region region.answer.cover region.accepted (c.in-Ok.number == 1) one c.in_ok-check_cells.ensures.accepted state new in
     let e = c.store_along.ensures.whole refl in
     let done : OnOk c.store_along.result (StoresChunks layout keep range held state new) =
-    on_ok_weaker c.store_along.result (range_stored layout c.args.self.now.layout.lawful keep range (box_of c.in_ok-region.region) held (c.args.chunks.now.same_length) dimensions small some shape region.region region.cover region.accepted (c.in-Ok.number == 1) one c.in_ok-check_cells.ensures.accepted state new) e.done in
+    on_ok_weaker c.store_along.result (range_stored layout c.args.self.now.layout.lawful keep range (box_of c.in_ok-region.region) held (c.args.chunks.now.same_length) dimensions small some shape region.answer.region region.answer.cover region.accepted (c.in-Ok.number == 1) one c.in_ok-check_cells.ensures.accepted state new) e.done in
     let refused : IfErr c.store_along.result (λ (e : ArrayError). RefusesStoreChunks layout keep range held (refusal_of e) state new) =
     each_error c.store_along.result (λ (e : ArrayError). RefusesStore layout keep first (box_of c.in_ok-region.region) held (positions range) (refusal_of e) state new)
     (λ (e : ArrayError). RefusesStoreChunks layout keep range held (refusal_of e) state new)
-    (λ e left. range_left layout c.args.self.now.layout.lawful keep range (box_of c.in_ok-region.region) held (c.args.chunks.now.same_length) dimensions small some shape region.region region.cover region.accepted (c.in-Ok.number == 1) one c.in_ok-check_cells.ensures.accepted state new (refusal_of e) left)
+    (λ e left. range_left layout c.args.self.now.layout.lawful keep range (box_of c.in_ok-region.region) held (c.args.chunks.now.same_length) dimensions small some shape region.answer.region region.answer.cover region.accepted (c.in-Ok.number == 1) one c.in_ok-check_cells.ensures.accepted state new (refusal_of e) left)
     (each_error c.store_along.result (λ (e : ArrayError). RefusesStore layout keep None (box_of c.in_ok-region.region) held (positions range) (refusal_of e) state new)
     (λ (e : ArrayError). RefusesStore layout keep first (box_of c.in_ok-region.region) held (positions range) (refusal_of e) state new)
     (λ e left. subst (λ (f : Option Refusal). RefusesStore layout keep f (box_of c.in_ok-region.region) held (positions range) (refusal_of e) state new) (sym none) left) e.refused) in

@@ -46,14 +46,14 @@ pub patch_part-requires-clause-part : goal.patch_part-requires-clause-part
 patch_part-requires-clause-part g c = λ covers.
     let layout = layout_of c.args.self.now in
     let region = box_of c.args.region.now in
-    let is = c.in_ok-chunk.ensures.chunk in
+    let is = c.in_ok-chunk.ensures.answer.chunk in
     let lies = covers_lies layout.grid c.args.self.now.layout.lawful.grid c.in_ok-chunk.chunk.indices.now is.boxed region c.args.region.now.same_length c.requires.dimensions covers in
     (c.takes_itself.ensures.0 c.if-takes_itself.true).1 (subst (λ (b : Box). LiesInBox b region) (sym is.region) lies)
 
 pub patch_part-requires-clause-meets : goal.patch_part-requires-clause-meets
 patch_part-requires-clause-meets g c =
     let layout = layout_of c.args.self.now in
-    let same = c.in_ok-chunk.ensures.chunk.region ∙ ap (λ i. box_at layout.grid i) c.in_ok-chunk.ensures.indices in
+    let same = c.in_ok-chunk.ensures.answer.chunk.region ∙ ap (λ i. box_at layout.grid i) c.in_ok-chunk.ensures.answer.indices in
     subst (Shares (box_of c.args.region.now)) (sym same) (c.requires.meets (c.takes_itself.ensures.0 c.if-takes_itself.true).0)
 
 pub patch_part-requires-clause-ask : goal.patch_part-requires-clause-ask
@@ -62,11 +62,11 @@ patch_part-requires-clause-ask g c =
     let region = box_of c.args.region.now in
     let state = g.S.ReadableStorageTraits.state c.args.self.now.storage in
     let index = c.in_ok-chunk.chunk.indices.now in
-    let is = c.in_ok-chunk.ensures.chunk in
+    let is = c.in_ok-chunk.ensures.answer.chunk in
     let proper : IsPart layout region index = λ covers.
     let lies = covers_lies layout.grid c.args.self.now.layout.lawful.grid index is.boxed region c.args.region.now.same_length c.requires.dimensions covers in
     (c.takes_itself.ensures.0 c.if-takes_itself.true).1 (subst (λ (b : Box). LiesInBox b region) (sym is.region) lies) in
-    (subst (λ (i : List ℕ). MayAskParts layout region (i ∷ []) state) (sym c.in_ok-chunk.ensures.indices) c.requires.ask) index (member index) proper
+    (subst (λ (i : List ℕ). MayAskParts layout region (i ∷ []) state) (sym c.in_ok-chunk.ensures.answer.indices) c.requires.ask) index (member index) proper
 
 pub returns-then-takes_itself : goal.returns-then-takes_itself
 returns-then-takes_itself g c =
@@ -75,14 +75,14 @@ returns-then-takes_itself g c =
     let region = box_of c.args.region.now in
     let held = data_of c.args.region_data.now in
     let parts = (c.takes_itself.ensures.0 c.if-takes_itself.true).0 in
-    subst (λ (i : List ℕ). StoresPartOf g.S.ReadableStorageTraits.state keep c.args.parts region held i c.args.self.now c.patch_part.new.self c.patch_part.result) c.in_ok-chunk.ensures.indices
+    subst (λ (i : List ℕ). StoresPartOf g.S.ReadableStorageTraits.state keep c.args.parts region held i c.args.self.now c.patch_part.new.self c.patch_part.result) c.in_ok-chunk.ensures.answer.indices
     (by_itself g.S.ReadableStorageTraits.state keep c.args.parts region held c.in_ok-chunk.chunk.indices.now c.args.self.now c.patch_part.new.self c.patch_part.result parts c.patch_part.ensures)
 
 pub store_whole-requires-clause-ask : goal.store_whole-requires-clause-ask
 store_whole-requires-clause-ask g c =
     let layout = layout_of c.args.self.now in
     let state = g.S.ReadableStorageTraits.state c.args.self.now.storage in
-    subst (λ (i : List ℕ). MayAskParts layout (box_of c.args.region.now) (i ∷ []) state) (sym c.in_ok-chunk.ensures.indices) c.requires.ask
+    subst (λ (i : List ℕ). MayAskParts layout (box_of c.args.region.now) (i ∷ []) state) (sym c.in_ok-chunk.ensures.answer.indices) c.requires.ask
 
 pub returns : goal.returns
 returns g c =
@@ -93,7 +93,7 @@ returns g c =
     let region = box_of c.args.region.now in
     let held = data_of c.args.region_data.now in
     let index = c.in_ok-chunk.chunk.indices.now in
-    let is = c.in_ok-chunk.ensures.chunk in
+    let is = c.in_ok-chunk.ensures.answer.chunk in
     let itself = TakesItself layout c.args.parts region in
     let not : itself index → ⊥ = λ takes.
     false≢true (sym c.if-takes_itself.false ∙ c.takes_itself.ensures.1 (
@@ -102,7 +102,7 @@ returns g c =
           takes.1 (lies_covers (box_at layout.grid index) region (box_long layout.grid index) c.args.region.now.same_length (subst (λ (b : Box). LiesInBox b region) is.region lies)),
     )) in
     let e = c.store_whole.ensures in
-    subst (λ (i : List ℕ). StoresPartOf g.S.ReadableStorageTraits.state keep c.args.parts region held i c.args.self.now c.store_whole.new.self c.store_whole.result) c.in_ok-chunk.ensures.indices
+    subst (λ (i : List ℕ). StoresPartOf g.S.ReadableStorageTraits.state keep c.args.parts region held i c.args.self.now c.store_whole.new.self c.store_whole.result) c.in_ok-chunk.ensures.answer.indices
     (record {
       whole = λ off. e;
       partly = record {

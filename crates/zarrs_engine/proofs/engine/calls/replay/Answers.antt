@@ -58,23 +58,8 @@ loop-call-preserved g c =
       room = omega arith;
     }
 
-pub returns-clause-bytes : goal.returns-clause-bytes
-returns-clause-bytes g c =
-    let i = c.loop-call.invariant in
-    let layout = layout_of c.args.engine.now in
-    let lawful = c.args.engine.now.layout.lawful in
-    let keep = stores_empty_chunks c.args.options.now in
-    let old = state_of g.S.ReadableStorageTraits.state c.args.engine.now in
-    let new = state_of g.S.ReadableStorageTraits.state c.loop-call.engine in
-    let calls = take c.loop-call.call-index c.args.calls.now in
-    let replies = c.loop-call.replies.items in
-    λ whole. record {
-      decodes = run_decodes layout lawful keep calls replies old new (i.run whole);
-      canonical = λ off canon. run_keeps layout lawful calls replies old new (subst (λ (keep : Bool). Run layout keep calls replies old new) off (i.run whole)) canon;
-    }
-
-pub returns-clause-run : goal.returns-clause-run
-returns-clause-run g c =
+pub returns : goal.returns
+returns g c =
     let i = c.loop-call.invariant in
     let layout = layout_of c.args.engine.now in
     let lawful = c.args.engine.now.layout.lawful in
@@ -84,9 +69,20 @@ returns-clause-run g c =
     let new = state_of g.S.ReadableStorageTraits.state c.loop-call.engine in
     let calls = c.args.calls.now in
     let replies = c.loop-call.replies.items in
-    let all : take c.loop-call.call-index calls ≡ calls = take_all c.loop-call.call-index calls c.loop-call-test.false in
+    let made = take c.loop-call.call-index calls in
+    let all : made ≡ calls = take_all c.loop-call.call-index calls c.loop-call-test.false in
     record {
-      patched = subst (λ (made : List Call). PatchRun layout keep asked made replies old new) all i.patched;
-      one_function = patched_all_one layout lawful keep asked calls c.loop-call.call-index replies old new c.loop-call-test.false i.patched;
-      run = λ whole. subst (λ (made : List Call). Run layout keep made replies old new) all (i.run whole);
+      run = record {
+        patched = subst (λ (made : List Call). PatchRun layout keep asked made replies old new) all i.patched;
+        one_function = patched_all_one layout lawful keep asked calls c.loop-call.call-index replies old new c.loop-call-test.false i.patched;
+        run = λ whole. subst (λ (made : List Call). Run layout keep made replies old new) all (i.run whole);
+      };
+      untouched = tt;
+      layout = i.layout;
+      others = i.others;
+      reach = i.reach;
+      bytes = λ whole. record {
+        decodes = run_decodes layout lawful keep made replies old new (i.run whole);
+        canonical = λ off canon. run_keeps layout lawful made replies old new (subst (λ (keep : Bool). Run layout keep made replies old new) off (i.run whole)) canon;
+      };
     }

@@ -30,7 +30,7 @@ retrieve_array_subset_into-requires g c covered =
     let part = c.args.chunk_subset.now in
     let region = c.in_ok-region.ensures in
     part_ask (layout_of decoder.engine.now) decoder.engine.now.layout.lawful decoder.chunk_indices.items decoder.boxed (box_of part) part.same_length region.accepted
-    (box_of c.in_ok-region.region) region.region (g.S.ReadableStorageTraits.state decoder.engine.now.storage)
+    (box_of c.in_ok-region.region) region.answer (g.S.ReadableStorageTraits.state decoder.engine.now.storage)
     (c.requires (chunk_accepted (layout_of decoder.engine.now) decoder.chunk_indices.items decoder.boxed) region.accepted)
 
 -- what is refused by the region is refused by the part, which lies in its chunk
@@ -53,16 +53,16 @@ returns g c =
       kept = read.ensures.kept;
       accepted = search rules;
       covered = λ lies. part_region layout decoder.engine.now.layout.lawful index decoder.boxed (box_of part) part.same_length lies shape;
-      cells = subst (λ (b : Box). OnOk read.result (RetrievesInto layout shape b state t new)) region.region read.ensures.cells;
-      content = subst (λ (b : Box). OnOk read.result (HasContent layout b state t new)) region.region read.ensures.content;
+      cells = subst (λ (b : Box). OnOk read.result (RetrievesInto layout shape b state t new)) region.answer read.ensures.cells;
+      content = subst (λ (b : Box). OnOk read.result (HasContent layout b state t new)) region.answer read.ensures.content;
       refused =
           each_error read.result (λ (e : ArrayError). RefusesRetrieveInto layout shape (box_of c.in_ok-region.region) t (refusal_of e) state)
           (λ (e : ArrayError). RefusesPartInto layout shape index (box_of part) t (refusal_of e) state)
-          (λ e why. inr (region.accepted, subst (λ (b : Box). RefusesRetrieveInto layout shape b t (refusal_of e) state) region.region why)) read.ensures.refused;
+          (λ e why. inr (region.accepted, subst (λ (b : Box). RefusesRetrieveInto layout shape b t (refusal_of e) state) region.answer why)) read.ensures.refused;
       kept_bytes =
           refused_later read.result _ _ _ region.accepted
-          (subst (λ (b : Box). OnErr read.result (IsSome (target_refusal layout shape b t) → new.bytes.now ≡ t.bytes.now)) region.region read.ensures.kept_bytes);
+          (subst (λ (b : Box). OnErr read.result (IsSome (target_refusal layout shape b t) → new.bytes.now ≡ t.bytes.now)) region.answer read.ensures.kept_bytes);
       kept_masks =
           refused_later read.result _ _ _ region.accepted
-          (subst (λ (b : Box). OnErr read.result (IsSome (target_refusal layout shape b t) → new.masks.now ≡ t.masks.now)) region.region read.ensures.kept_masks);
+          (subst (λ (b : Box). OnErr read.result (IsSome (target_refusal layout shape b t) → new.masks.now ≡ t.masks.now)) region.answer read.ensures.kept_masks);
     }

@@ -28,4 +28,4 @@ returns-clause-one g c =
     let some = not_empty region (λ at. false≢true (sym c.if-is_empty.false ∙ c.is_empty.ensures.1 at)) in
     let is = c.start.ensures ∙ ap (λ (b : Box). b.start) c.requires.met ∙ first_chunk layout.grid region some in
     box_test region chunk c.eq.result c.eq.ensures
-    ∙ sym (one_some layout.grid region c.start.result.now chunk some is c.in_ok-chunk.ensures.region)
+    ∙ sym (one_some layout.grid region c.start.result.now chunk some is c.in_ok-chunk.ensures.answer)
