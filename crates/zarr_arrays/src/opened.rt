@@ -4,7 +4,10 @@ ghost use Rattle.zarrs_data_type.specs.ArrayData.{data_of};
 ghost use Rattle.zarrs_subset.specs.Regions.{box_of};
 ghost use Rattle.zarrs.specs.Arrays.{layout_of_array};
 ghost use Rattle.zarrs_directory.specs.Directory.{directory_of};
-ghost use Rattle.zarr_arrays.specs.Reading.{ReadsCells};
+ghost use Rattle.zarr_cells.specs.Forms.{rows_of};
+ghost use Rattle.zarrs_engine_calls.specs.ChunkBoxes.{chunks_met};
+ghost use Rattle.zarr_arrays.specs.Reading.{HasReadOnly, ReadsCells};
+ghost use Rattle.zarr_arrays.specs.Storing.{StoresCells};
 
 use crate::calls::{compact_chunk, retrieve_cells, store_cells, upgrade};
 use crate::reading::{outside, read_chunk, read_chunks, read_parts};
@@ -109,13 +112,18 @@ pub fn open<'r>(rt: &'r HostRuntime, dir: &str) -> Result<Opened<'r>, Refusal> {
 }
 
 impl<'r> Opened<'r> {
+    /// Lets go of the array, here and not in the crates above.
+    pub fn close(self) {}
+
     /// Returns the options of writing calls: without a fill value a chunk of zeros is stored like any other.
     pub fn options(&self) -> CodecOptions {
         CodecOptions::default().with_store_empty_chunks(self.lens.has_no_fill)
     }
 
     /// Returns rows of so many cells, if the cells are numbers or bools.
-    pub fn rows(&self, width: u64) -> Option<Rows> {
+    pub fn rows(&self, width: u64) -> Option<Rows>
+        ensures { result ≡ rows_of (layout_of_array self.now.array).kind self.now.lens.floats width }
+    {
         let data_type = self.array.data_type();
         let form = form_of(data_type, self.lens.floats)?;
         let size = data_type.element_size()?;
@@ -152,7 +160,7 @@ impl<'r> Opened<'r> {
         }
     }
 
-    /// Returns the cells of the region. Its chunks are read first, and what was read before is forgotten.
+    /// Returns the cells of the region. Its chunks are read first, and no other; what was read before is forgotten.
     ///
     /// # Errors
     /// E1 for a position that no chunk covers; E7 for a file that cannot be read; those of `Array::retrieve_array_subset`.
@@ -163,12 +171,15 @@ impl<'r> Opened<'r> {
     ) -> Result<ArrayBytes<'static>, Refusal>
         ensures cells { IfOk result (λ cells. ReadsCells (layout_of_array self.new.array)
             (box_of region.now) self.new.store (data_of cells)) }
+        ensures only { OnOk result (HasReadOnly (layout_of_array self.old.array)
+            (chunks_met (layout_of_array self.old.array).grid (box_of region.now)) self.new.store) }
         ensures array { self.new.array ≡ self.old.array }
         ensures directory { OnOk result (directory_of self.new.store ≡ directory_of self.old.store) }
     {
         self.store.forget();
         read_chunks(&self.array, &mut self.store, alloc, region)?;
-        retrieve_cells(&self.array, alloc, &self.store, region)
+        let cells = retrieve_cells(&self.array, alloc, &self.store, region)?;
+        Ok(cells)
     }
 
     /// Stores the cells of the region. The chunks that it does not cover are read first.
@@ -181,11 +192,16 @@ impl<'r> Opened<'r> {
         alloc: Global,
         region: &ArraySubset,
         cells: ArrayBytes<'_>,
-    ) -> Result<(), Refusal> {
+    ) -> Result<(), Refusal>
+        ensures stored { OnOk result (StoresCells (layout_of_array self.old.array)
+            (box_of region.now) (data_of cells.entry) self.old.store self.new.store) }
+        ensures array { self.new.array ≡ self.old.array }
+    {
         self.store.forget();
         read_parts(&self.array, &mut self.store, alloc, region)?;
         let options = self.options();
-        store_cells(&self.array, alloc, &mut self.store, region, cells, &options)
+        store_cells(&self.array, alloc, &mut self.store, region, cells, &options)?;
+        Ok(())
     }
 
     /// Compacts the chunk with these indices, of which there is one for each dimension. Returns whether it was not compact.

@@ -1,0 +1,157 @@
+//! The command line.
+use crate::cells::{compact, get, put, upgrade};
+use crate::check::check;
+use crate::create::create;
+use crate::diff::diff;
+use crate::info::info;
+use crate::reencode::reencode;
+use crate::resize::resize;
+use crate::session::session;
+use std::alloc::Global;
+use zarr_arrays::{Opened, Refusal, open};
+use zarr_words::{Command, Given, Usage, command_help, program_help, usage_of};
+
+/// How the words of a command line end.
+#[derive(Debug, Drop)]
+pub(crate) enum Outcome {
+    /// The command was done; whether its answer is yes.
+    Done(bool),
+    /// It was refused, for this reason.
+    Refused(String),
+}
+
+/// Runs a command on its array, which is open. Returns whether its answer is yes.
+fn answer_of(
+    rt: &HostRuntime,
+    opened: &mut Opened<'_>,
+    command: Command,
+    given: &Given<'_>,
+) -> Result<bool, Refusal> {
+    match command {
+        Command::Get => get(rt, opened, given),
+        Command::Put => put(rt, opened, given),
+        Command::Resize => resize(rt, opened, given),
+        Command::Upgrade => upgrade(rt, opened),
+        Command::Compact => compact(rt, opened, given.value("dir")),
+        Command::Reencode => reencode(rt, opened, given),
+        Command::Check => check(rt, opened, given.value("dir")),
+        _ => diff(rt, opened, given.value("to")),
+    }
+}
+
+/// Opens the array of the command, and runs it.
+fn on_array(rt: &HostRuntime, command: Command, given: &Given<'_>) -> Result<bool, Refusal> {
+    let mut opened = open(rt, given.value("dir"))?;
+    let answer = answer_of(rt, &mut opened, command, given);
+    opened.close();
+    answer
+}
+
+/// Runs a command, but no session. Returns whether its answer is yes.
+fn answer(rt: &HostRuntime, command: Command, given: &Given<'_>) -> Result<bool, Refusal> {
+    match command {
+        Command::Info => info(rt, given.value("dir"), given.has("json")),
+        Command::Create => create(rt, given),
+        Command::Do => Err(Refusal::said(rt.alloc(), "a session has no session in it")),
+        _ => on_array(rt, command, given),
+    }
+}
+
+/// Says what the command ended in. A pipe that nobody reads any more is an error.
+fn outcome_of(
+    alloc: Global,
+    name: &str,
+    dir: &str,
+    answer: Result<bool, Refusal>,
+) -> Result<Outcome, Refusal> {
+    match answer {
+        Ok(is_yes) => Ok(Outcome::Done(is_yes)),
+        Err(refusal) if refusal.is_closed_pipe() => Err(refusal),
+        Err(refusal) => Ok(Outcome::Refused(format!(in alloc; "zarr {name} {dir}: {refusal}")?)),
+    }
+}
+
+/// Runs a command on the words behind its name.
+fn run_command(rt: &HostRuntime, usage: &Usage, words: &[String]) -> Result<Outcome, Refusal> {
+    let alloc = rt.alloc();
+    if words.iter().any(|word| is_help(word.as_str())) {
+        let help = command_help(alloc, usage)?;
+        println!(rt; "{help}")?;
+        return Ok(Outcome::Done(true));
+    }
+    let given = match Given::of(alloc, usage, words) {
+        Ok(given) => given,
+        Err(refusal) => {
+            let line = usage.line(alloc)?;
+            let text = format!(in alloc; "zarr {}: {refusal}\nUsage: {line}", usage.name)?;
+            return Ok(Outcome::Refused(text));
+        }
+    };
+    let answer = answer(rt, usage.command, &given);
+    outcome_of(alloc, usage.name, given.value("dir"), answer)
+}
+
+fn is_help(word: &str) -> bool {
+    word == "--help" || word == "-h"
+}
+
+/// Runs the words of a command line, but no session. An error is one of the standard streams, or of memory.
+pub(crate) fn run_words(rt: &HostRuntime, words: &[String]) -> Result<Outcome, Refusal> {
+    let alloc = rt.alloc();
+    let Some(name) = words.get(1) else {
+        return Ok(Outcome::Refused(program_help(alloc)?));
+    };
+    let name = name.as_str();
+    if is_help(name) || name == "help" {
+        let help = program_help(alloc)?;
+        println!(rt; "{help}")?;
+        return Ok(Outcome::Done(true));
+    }
+    match (usage_of(name), words.get(2..)) {
+        (Some(usage), Some(words)) => run_command(rt, &usage, words),
+        _ => Ok(Outcome::Refused(format!(in alloc;
+            "zarr: there is no command `{name}`: see zarr --help"
+        )?)),
+    }
+}
+
+/// Returns the files of the sessions that the words name, if they name any.
+fn session_files(words: &[String]) -> Option<&[String]> {
+    match words.get(1) {
+        Some(name) if name.as_str() == "do" && words.len() > 2 => words.get(2..),
+        _ => None,
+    }
+}
+
+/// Runs the words, or the sessions that they name.
+fn run_all(rt: &HostRuntime, words: &[String]) -> Result<Outcome, Refusal> {
+    let Some(paths) = session_files(words) else {
+        return run_words(rt, words);
+    };
+    let mut is_good = true;
+    for path in paths {
+        is_good = session(rt, path.as_str())? && is_good;
+    }
+    Ok(Outcome::Done(is_good))
+}
+
+/// Runs the words of a command line. Returns the status: 0; 1 where the answer is no; 2 for a refusal, whose text goes to
+/// standard error. A pipe that nobody reads any more ends the command quietly.
+///
+/// # Errors
+/// Standard error cannot be written.
+pub fn run(rt: &HostRuntime, words: &[String]) -> Result<u8, Refusal> {
+    match run_all(rt, words) {
+        Ok(Outcome::Done(true)) => Ok(0),
+        Ok(Outcome::Done(false)) => Ok(1),
+        Ok(Outcome::Refused(text)) => {
+            eprintln!(rt; "{text}")?;
+            Ok(2)
+        }
+        Err(refusal) if refusal.is_closed_pipe() => Ok(0),
+        Err(refusal) => {
+            eprintln!(rt; "zarr: {refusal}")?;
+            Ok(2)
+        }
+    }
+}
