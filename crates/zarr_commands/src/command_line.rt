@@ -9,7 +9,7 @@ use crate::resize::resize;
 use crate::session::session;
 use std::alloc::Global;
 use zarr_arrays::{Opened, Refusal, open};
-use zarr_words::{Command, Given, Usage, command_help, program_help, usage_of};
+use zarr_words::{ArrayCommand, Command, Given, Usage, command_help, program_help, usage_of};
 
 /// How the words of a command line end.
 #[derive(Debug, Drop)]
@@ -24,23 +24,23 @@ pub(crate) enum Outcome {
 fn answer_of(
     rt: &HostRuntime,
     opened: &mut Opened<'_>,
-    command: Command,
+    command: ArrayCommand,
     given: &Given<'_>,
 ) -> Result<bool, Refusal> {
     match command {
-        Command::Get => get(rt, opened, given),
-        Command::Put => put(rt, opened, given),
-        Command::Resize => resize(rt, opened, given),
-        Command::Upgrade => upgrade(rt, opened),
-        Command::Compact => compact(rt, opened, given.value("dir")),
-        Command::Reencode => reencode(rt, opened, given),
-        Command::Check => check(rt, opened, given.value("dir")),
-        _ => diff(rt, opened, given.value("to")),
+        ArrayCommand::Get => get(rt, opened, given),
+        ArrayCommand::Put => put(rt, opened, given),
+        ArrayCommand::Resize => resize(rt, opened, given),
+        ArrayCommand::Upgrade => upgrade(rt, opened),
+        ArrayCommand::Compact => compact(rt, opened, given.value("dir")),
+        ArrayCommand::Reencode => reencode(rt, opened, given),
+        ArrayCommand::Check => check(rt, opened, given.value("dir")),
+        ArrayCommand::Diff => diff(rt, opened, given.value("to")),
     }
 }
 
 /// Opens the array of the command, and runs it.
-fn on_array(rt: &HostRuntime, command: Command, given: &Given<'_>) -> Result<bool, Refusal> {
+fn on_array(rt: &HostRuntime, command: ArrayCommand, given: &Given<'_>) -> Result<bool, Refusal> {
     let mut opened = open(rt, given.value("dir"))?;
     let answer = answer_of(rt, &mut opened, command, given);
     opened.close();
@@ -53,7 +53,7 @@ fn answer(rt: &HostRuntime, command: Command, given: &Given<'_>) -> Result<bool,
         Command::Info => info(rt, given.value("dir"), given.has("json")),
         Command::Create => create(rt, given),
         Command::Do => Err(Refusal::said(rt.alloc(), "a session has no session in it")),
-        _ => on_array(rt, command, given),
+        Command::OnArray(command) => on_array(rt, command, given),
     }
 }
 

@@ -11,5 +11,5 @@ mod words;
 
 pub use error::WordsError;
 pub use lines::words_of;
-pub use usages::{Command, Usage, command_help, program_help, usage_of};
+pub use usages::{ArrayCommand, Command, Usage, command_help, program_help, usage_of};
 pub use words::Given;

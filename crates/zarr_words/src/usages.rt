@@ -9,16 +9,23 @@ const ABOUT: &str =
 #[derive(Clone, Copy, Debug, PartialEq, Eq)]
 pub enum Command {
     Info,
+    Create,
+    Do,
+    /// A command on one array, which is opened first.
+    OnArray(ArrayCommand),
+}
+
+/// A command on one array.
+#[derive(Clone, Copy, Debug, PartialEq, Eq)]
+pub enum ArrayCommand {
     Get,
     Put,
-    Create,
     Resize,
     Upgrade,
     Compact,
     Reencode,
     Check,
     Diff,
-    Do,
 }
 
 /// How a command is used.
@@ -50,14 +57,14 @@ const USAGES: [Usage; 11] = [
         options: "json",
     },
     Usage {
-        command: Command::Get,
+        command: Command::OnArray(ArrayCommand::Get),
         name: "get",
         about: "writes cells",
         places: "dir start? shape?",
         options: "raw npy to=",
     },
     Usage {
-        command: Command::Put,
+        command: Command::OnArray(ArrayCommand::Put),
         name: "put",
         about: "stores cells",
         places: "dir start? shape?",
@@ -71,42 +78,42 @@ const USAGES: [Usage; 11] = [
         options: "shape! chunks! type! fill= shard= separator= v2",
     },
     Usage {
-        command: Command::Resize,
+        command: Command::OnArray(ArrayCommand::Resize),
         name: "resize",
         about: "changes the shape of an array",
         places: "dir shape",
         options: "",
     },
     Usage {
-        command: Command::Upgrade,
+        command: Command::OnArray(ArrayCommand::Upgrade),
         name: "upgrade",
         about: "makes a V2 array a V3 array",
         places: "dir",
         options: "",
     },
     Usage {
-        command: Command::Compact,
+        command: Command::OnArray(ArrayCommand::Compact),
         name: "compact",
         about: "compacts the shards of an array",
         places: "dir",
         options: "",
     },
     Usage {
-        command: Command::Reencode,
+        command: Command::OnArray(ArrayCommand::Reencode),
         name: "reencode",
         about: "makes an array of the same cells in other chunks",
         places: "dir to",
         options: "chunks= shard= endian=",
     },
     Usage {
-        command: Command::Check,
+        command: Command::OnArray(ArrayCommand::Check),
         name: "check",
         about: "reads each chunk of an array",
         places: "dir",
         options: "",
     },
     Usage {
-        command: Command::Diff,
+        command: Command::OnArray(ArrayCommand::Diff),
         name: "diff",
         about: "compares the cells of two arrays",
         places: "dir to",
