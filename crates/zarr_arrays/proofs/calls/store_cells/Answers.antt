@@ -5,7 +5,7 @@ use Rattle.zarrs_directory.specs.Directory.{directory_state}
 use Rattle.zarr_arrays.proofs.Asked.{parts_at}
 use Rattle.zarr_arrays.proofs.calls.store_cells.Goals as goal
 
-pub store_through-outcome-requires : goal.store_through-outcome-requires
-store_through-outcome-requires c =
+pub store_through-requires : goal.store_through-requires
+store_through-requires c =
     parts_at (layout_of_array c.in_ok-array.array) (layout_of_array c.args.array.now) _ _ (box_of c.args.region.now) c.in_ok-array.ensures.layout
     (ap (λ s. directory_state s.now) c.in_ok-array.ensures.lent) c.requires
