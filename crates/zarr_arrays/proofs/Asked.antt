@@ -1,12 +1,15 @@
 -- What holds of each of the chunks that a loop has gone over, and what a call may ask then.
-use Rattle.std.proofs.Common.{◌≡◌, ℕ, List, [], ◌∷◌, ◌++◌, ◌<◌, length, true, refl, sym, subst, ap, ◌∙◌, inl, inr, arith}
-use Rattle.std.specs.Prelude.{Contains, Option, Some, None, Result, Ok, IfOk}
+use Rattle.std.proofs.Common.{◌≡◌, ℕ, List, [], ◌∷◌, ◌++◌, ◌<◌, length, true, false, refl, sym, subst, ap, ◌∙◌, inl, inr, arith}
+use Rattle.std.specs.Prelude.{◌⊎◌, Contains, Option, Some, None, Result, Ok, IfOk}
 use Rattle.std.specs.declared.alloc.AllocError.{AllocError}
 use Rattle.smallvec.specs.SmallVec.{SmallVec}
 use Rattle.zarrs_subset.specs.declared.indices.Indices.{Indices}
 use Rattle.zarrs_subset.specs.Walks.{positions_left, YieldsPosition}
 use Rattle.std.proofs.lemmas.List.{append-nil, append_assoc}
-use Rattle.std.proofs.lemmas.List.Elements.{Contains-push_cases}
+use Rattle.std.proofs.lemmas.List.Elements.{Contains-append_right, Contains-push_cases}
+use Rattle.std.specs.Str.{bytes_eq}
+use Rattle.std.proofs.lemmas.Bool.{cases_Bool, false≢true}
+use Rattle.std.proofs.lemmas.Slice.Eq.{bytes_eq-Decides}
 use Rattle.zarrs_subset.specs.Regions.{Box}
 use Rattle.zarrs_storage.specs.Store.{StoreState}
 use Rattle.zarrs_engine_calls.specs.Layout.{Layout}
@@ -15,7 +18,7 @@ use Rattle.zarrs_engine_calls.specs.Reach.{MayAskChunk, MayAskChunks, MayAskPart
 use Rattle.zarrs_directory.specs.Directory.{directory_state, was_read, ReadsKey}
 use Rattle.zarrs_data_type.specs.ArrayData.{ArrayData}
 use Rattle.zarrs_engine_calls.specs.Reads.{ReadsRegion}
-use Rattle.zarr_arrays.specs.Reading.{HasRead, HasReadPart, KeepsRead}
+use Rattle.zarr_arrays.specs.Reading.{HasRead, HasReadPart, KeepsRead, ReadsAtMost, ReadsNoOthers, HasReadOnly}
 use Rattle.zarrs_chunk_grid.specs.Grids.{box_at}
 use Rattle.zarrs_directory.specs.declared.store.DirectoryStore.{DirectoryStore}
 
@@ -37,6 +40,13 @@ each_more P Q all left rest first split holds keeps each = (
 pub each_all : (P : List ℕ → Type 0) (all left : List (List ℕ)) → left ≡ [] → Each P all left → (index : List ℕ) → Contains all index → P index
 each_all P all left none each index among =
     each.2 index (subst (λ l. Contains l index) (sym (sym (append-nil each.0) ∙ ap (λ l. each.0 ++ l) (sym none) ∙ each.1)) among)
+
+-- the chunk that is next is one of all
+pub each_next : (P : List ℕ → Type 0) (all left rest : List (List ℕ)) (first : List ℕ) → left ≡ first ∷ rest → Each P all left → Contains all first
+each_next P all left rest first split each =
+    let head : Contains (first ∷ rest) first = (0, omega arith, refl) in
+    subst (λ (l : List (List ℕ)). Contains l first) each.1
+    (Contains-append_right each.0 left first (subst (λ (l : List (List ℕ)). Contains l first) (sym split) head))
 
 -- a store at whose keys each place may be asked
 abbrev pub ReadsAnyPlace : StoreState → Type 0
@@ -75,6 +85,52 @@ module _ {R : Type 0} (layout : Layout) where
   -- a chunk that the region covers
   pub is_no_part : (store : DirectoryStore R) (region : Box) (index : List ℕ) → CoversBox region (box_at layout.grid index) → HasReadPart layout region store index
   is_no_part store region index covers part = absurd (part covers)
+
+-- ---- no more is read
+
+same_or_apart : (q k : List ℕ) → (q ≡ k) ⊎ (q ≡ k → ⊥)
+same_or_apart q k =
+    elim (cases_Bool (bytes_eq q k)) [
+      | inl same ↦ inl ((bytes_eq-Decides q k).0 same)
+      | inr other ↦ inr (λ (same : q ≡ k). false≢true (sym other ∙ (bytes_eq-Decides q k).1 same))
+    ]
+
+module _ {R : Type 0} (layout : Layout) where
+  pub reads_at_most : (old new : DirectoryStore R) (index key : List ℕ) → key ≡ layout.key index → ReadsKey old new key → ReadsAtMost layout old new index
+  reads_at_most old new index key is_key reads = record {
+    keys = λ other read.
+        elim (same_or_apart other key) [
+          | inl same ↦ inr (same ∙ is_key)
+          | inr apart ↦ inl (sym (reads.keys.others other apart) ∙ read)
+        ];
+  }
+
+  pub same_at_most : (store : DirectoryStore R) (index : List ℕ) → ReadsAtMost layout store store index
+  same_at_most store index = record { keys = λ key read. inl read }
+
+  pub none_read : (chunks : List (List ℕ)) (store : DirectoryStore R) → ReadsNoOthers layout chunks store store
+  none_read chunks store = record { keys = λ key read. inl read }
+
+  pub more_read : (chunks : List (List ℕ)) (start old new : DirectoryStore R) (index : List ℕ) → Contains chunks index → ReadsAtMost layout old new index
+      → ReadsNoOthers layout chunks start old → ReadsNoOthers layout chunks start new
+  more_read chunks start old new index among most others = record {
+    keys = λ key read.
+        elim (most.keys key read) [
+          | inl before ↦ others.keys key before
+          | inr is ↦ inr (index, among, is)
+        ];
+  }
+
+  -- nothing was read before
+  pub read_only : (chunks : List (List ℕ)) (old new : DirectoryStore R) → ((key : List ℕ) → was_read old key ≡ false) → ReadsNoOthers layout chunks old new
+      → HasReadOnly layout chunks new
+  read_only chunks old new none others = record {
+    keys = λ key read.
+        elim (others.keys key read) [
+          | inl before ↦ absurd (false≢true (sym (none key) ∙ before))
+          | inr found ↦ found
+        ];
+  }
 
 -- a call of the iterator returned this position, or none
 pub yielded : (old new : Indices) (item : Option (Result (SmallVec ℕ) AllocError)) (position : SmallVec ℕ) → YieldsPosition old item new → item ≡ Some (Ok position)

@@ -1,2 +1,4 @@
 pub mod Bands
 pub mod Reading
+pub mod Sizes
+pub mod Storing

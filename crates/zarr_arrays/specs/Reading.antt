@@ -1,5 +1,5 @@
 -- What may be asked of the store of a directory once chunks were read.
-use Rattle.std.specs.Prelude.{◌≡◌, ℕ, List}
+use Rattle.std.specs.Prelude.{◌≡◌, ◌⊎◌, ℕ, List, true, Contains}
 use Rattle.zarrs_subset.specs.Regions.{Box}
 use Rattle.zarrs_data_type.specs.ArrayData.{ArrayData}
 use Rattle.zarrs_engine_calls.specs.Layout.{Layout}
@@ -7,7 +7,7 @@ use Rattle.zarrs_engine_calls.specs.ChunkBoxes.{chunks_met}
 use Rattle.zarrs_engine_calls.specs.Reach.{MayAskChunk}
 use Rattle.zarrs_engine_calls.specs.Reads.{ReadsRegion}
 use Rattle.zarrs_engine_calls.specs.StateRefusals.{IsPart}
-use Rattle.zarrs_directory.specs.Directory.{directory_of, directory_state}
+use Rattle.zarrs_directory.specs.Directory.{directory_of, directory_state, was_read}
 use Rattle.zarrs_directory.specs.declared.store.DirectoryStore.{DirectoryStore}
 
 -- the chunk may be asked
@@ -26,3 +26,17 @@ pub record KeepsRead {R : Type 0} (layout : Layout) (old new : DirectoryStore R)
 -- the data is the cells of the region, as the chunks say them that were read of the directory
 abbrev pub ReadsCells : {R : Type 0} → Layout → Box → DirectoryStore R → ArrayData → Type 0
 ReadsCells layout region store held = ReadsRegion layout region (chunks_met layout.grid region) held (directory_state store)
+
+-- ---- no more is read than is asked for
+
+-- each key that may be asked now might be asked before, but that of this chunk
+pub record ReadsAtMost {R : Type 0} (layout : Layout) (old new : DirectoryStore R) (index : List ℕ) : Type 0 where
+  pub keys : (key : List ℕ) → was_read new key ≡ true → (was_read old key ≡ true) ⊎ (key ≡ layout.key index)
+
+-- each key that may be asked now might be asked before, but those of these chunks
+pub record ReadsNoOthers {R : Type 0} (layout : Layout) (chunks : List (List ℕ)) (old new : DirectoryStore R) : Type 0 where
+  pub keys : (key : List ℕ) → was_read new key ≡ true → (was_read old key ≡ true) ⊎ ((index : List ℕ) × Contains chunks index × (key ≡ layout.key index))
+
+-- each key that may be asked is that of one of these chunks
+pub record HasReadOnly {R : Type 0} (layout : Layout) (chunks : List (List ℕ)) (store : DirectoryStore R) : Type 0 where
+  pub keys : (key : List ℕ) → was_read store key ≡ true → (index : List ℕ) × Contains chunks index × (key ≡ layout.key index)

@@ -1,5 +1,5 @@
 //! Calls of an array over the store of its directory, once what they ask for was read.
-ghost use Rattle.std.specs.Prelude.{◌≡◌, length, IfOk};
+ghost use Rattle.std.specs.Prelude.{◌≡◌, length, IfOk, OnOk};
 ghost use Rattle.zarrs_data_type.specs.ArrayData.{data_of};
 ghost use Rattle.zarrs_subset.specs.Regions.{box_of};
 ghost use Rattle.zarrs_engine_calls.specs.ChunkBoxes.{chunks_met};
@@ -8,6 +8,7 @@ ghost use Rattle.zarrs_storage.specs.Wrappers.{lent_state};
 ghost use Rattle.zarrs.specs.Arrays.{layout_of_array, store_of_array};
 ghost use Rattle.zarrs_directory.specs.Directory.{directory_state};
 ghost use Rattle.zarr_arrays.specs.Reading.{HasRead, ReadsCells};
+ghost use Rattle.zarr_arrays.specs.Storing.{StoresOver, lent_to};
 
 use crate::opened::Store;
 use crate::refusals::Refusal;
@@ -39,6 +40,7 @@ fn writing<'s, 'r>(
     ensures store { IfOk result (λ a.
         store_of_array ⟦<Lent<'s, DirectoryStore<'r, HostRuntime>> as ReadableStorageTraits>⟧.state a
         ≡ lent_state directory_state store.entry) }
+    ensures lent { IfOk result (λ a. lent_to a ≡ store.entry) }
 {
     Ok(array.with_storage(alloc, Lent::new(store))?)
 }
@@ -62,6 +64,25 @@ pub(crate) fn retrieve_cells(
     Ok(cells?)
 }
 
+/// Stores the cells of the region, through an array over a store that is lent.
+fn store_through(
+    array: &mut Array<Lent<'_, Store<'_>>>,
+    alloc: Global,
+    region: &ArraySubset,
+    cells: ArrayBytes<'_>,
+    options: &CodecOptions,
+) -> Result<(), Refusal>
+    requires { MayAskParts (layout_of_array array.old) (box_of region.now)
+        (chunks_met (layout_of_array array.old).grid (box_of region.now))
+        (directory_state (lent_to array.old).now) }
+    ensures loan { OnOk result ((lent_to array.new).ghost_name ≡ (lent_to array.old).ghost_name) }
+    ensures stored { OnOk result (StoresOver (layout_of_array array.old) (box_of region.now)
+        (data_of cells.entry) (lent_to array.old).now (lent_to array.new).now) }
+{
+    array.store_array_subset_opt(alloc, region, cells, options)?;
+    Ok(())
+}
+
 /// Stores the cells of the region. The chunks were read of which it covers a part alone.
 pub(crate) fn store_cells(
     array: &Array<()>,
@@ -76,9 +97,9 @@ pub(crate) fn store_cells(
         (directory_state store.old) }
 {
     let mut array = writing(array, alloc, store)?;
-    let outcome = array.store_array_subset_opt(alloc, region, cells, options);
-    drop(array);
-    Ok(outcome?)
+    store_through(&mut array, alloc, region, cells, options)?;
+    let _store = array.into_storage().into_inner();
+    Ok(())
 }
 
 /// Compacts the chunk with these indices, which was read. Returns whether it was not compact.

@@ -1,10 +1,14 @@
 //! Arrays in directories: opened, and their calls.
-ghost use Rattle.std.specs.Prelude.{◌≡◌, IfOk, OnOk};
+ghost use Rattle.std.specs.Prelude.{◌≡◌, IfOk, IfSome, IsErr, OnOk};
 ghost use Rattle.zarrs_data_type.specs.ArrayData.{data_of};
-ghost use Rattle.zarrs_subset.specs.Regions.{box_of};
-ghost use Rattle.zarrs.specs.Arrays.{layout_of_array};
+ghost use Rattle.zarrs_subset.specs.Regions.{LiesInShape, box_at_origin, box_of};
+ghost use Rattle.zarrs_codec.specs.Options.{stores_empty_chunks};
+ghost use Rattle.zarrs_creation.specs.Meanings.{shape_said};
+ghost use Rattle.zarrs.specs.Arrays.{layout_of_array, metadata_of_array};
 ghost use Rattle.zarrs_directory.specs.Directory.{directory_of};
-ghost use Rattle.zarr_arrays.specs.Reading.{ReadsCells};
+ghost use Rattle.zarr_cells.specs.Forms.{rows_of};
+ghost use Rattle.zarrs_engine_calls.specs.ChunkBoxes.{chunks_met};
+ghost use Rattle.zarr_arrays.specs.Reading.{HasReadOnly, ReadsCells};
 
 use crate::calls::{compact_chunk, retrieve_cells, store_cells, upgrade};
 use crate::reading::{outside, read_chunk, read_chunks, read_parts};
@@ -109,13 +113,20 @@ pub fn open<'r>(rt: &'r HostRuntime, dir: &str) -> Result<Opened<'r>, Refusal> {
 }
 
 impl<'r> Opened<'r> {
+    /// Lets go of the array, here and not in the crates above.
+    pub fn close(self) {}
+
     /// Returns the options of writing calls: without a fill value a chunk of zeros is stored like any other.
-    pub fn options(&self) -> CodecOptions {
+    pub fn options(&self) -> CodecOptions
+        ensures { stores_empty_chunks result ≡ self.now.lens.has_no_fill }
+    {
         CodecOptions::default().with_store_empty_chunks(self.lens.has_no_fill)
     }
 
     /// Returns rows of so many cells, if the cells are numbers or bools.
-    pub fn rows(&self, width: u64) -> Option<Rows> {
+    pub fn rows(&self, width: u64) -> Option<Rows>
+        ensures { result ≡ rows_of (layout_of_array self.now.array).kind self.now.lens.floats width }
+    {
         let data_type = self.array.data_type();
         let form = form_of(data_type, self.lens.floats)?;
         let size = data_type.element_size()?;
@@ -140,11 +151,14 @@ impl<'r> Opened<'r> {
     ///
     /// # Errors
     /// E1 for another number of dimensions, or an end past the shape.
-    pub fn region(
-        &self,
-        alloc: Global,
-        region: Option<ArraySubset>,
-    ) -> Result<ArraySubset, Refusal> {
+    pub fn region(&self, alloc: Global, region: Option<ArraySubset>) -> Result<ArraySubset, Refusal>
+        ensures inside { IfSome region (λ given. LiesInShape (box_of given)
+            (shape_said (metadata_of_array self.now.array)) → result ≡ Ok given) }
+        ensures outside { IfSome region (λ given. (LiesInShape (box_of given)
+            (shape_said (metadata_of_array self.now.array)) → ⊥) → IsErr result) }
+        ensures all { region ≡ None → IfOk result (λ all. box_of all
+            ≡ box_at_origin (shape_said (metadata_of_array self.now.array))) }
+    {
         match region {
             Some(region) if region.inbounds_shape(self.array.shape()) => Ok(region),
             Some(region) => Err(outside(alloc, &self.array, &region)),
@@ -152,7 +166,7 @@ impl<'r> Opened<'r> {
         }
     }
 
-    /// Returns the cells of the region. Its chunks are read first, and what was read before is forgotten.
+    /// Returns the cells of the region. Its chunks are read first, and no other; what was read before is forgotten.
     ///
     /// # Errors
     /// E1 for a position that no chunk covers; E7 for a file that cannot be read; those of `Array::retrieve_array_subset`.
@@ -163,12 +177,15 @@ impl<'r> Opened<'r> {
     ) -> Result<ArrayBytes<'static>, Refusal>
         ensures cells { IfOk result (λ cells. ReadsCells (layout_of_array self.new.array)
             (box_of region.now) self.new.store (data_of cells)) }
+        ensures only { OnOk result (HasReadOnly (layout_of_array self.old.array)
+            (chunks_met (layout_of_array self.old.array).grid (box_of region.now)) self.new.store) }
         ensures array { self.new.array ≡ self.old.array }
         ensures directory { OnOk result (directory_of self.new.store ≡ directory_of self.old.store) }
     {
         self.store.forget();
         read_chunks(&self.array, &mut self.store, alloc, region)?;
-        retrieve_cells(&self.array, alloc, &self.store, region)
+        let cells = retrieve_cells(&self.array, alloc, &self.store, region)?;
+        Ok(cells)
     }
 
     /// Stores the cells of the region. The chunks that it does not cover are read first.
@@ -181,11 +198,14 @@ impl<'r> Opened<'r> {
         alloc: Global,
         region: &ArraySubset,
         cells: ArrayBytes<'_>,
-    ) -> Result<(), Refusal> {
+    ) -> Result<(), Refusal>
+        ensures { self.new.array ≡ self.old.array }
+    {
         self.store.forget();
         read_parts(&self.array, &mut self.store, alloc, region)?;
         let options = self.options();
-        store_cells(&self.array, alloc, &mut self.store, region, cells, &options)
+        store_cells(&self.array, alloc, &mut self.store, region, cells, &options)?;
+        Ok(())
     }
 
     /// Compacts the chunk with these indices, of which there is one for each dimension. Returns whether it was not compact.

@@ -6,7 +6,7 @@ ghost use Rattle.zarrs_engine_calls.specs.ChunkBoxes.{CoversBox, chunks_met};
 ghost use Rattle.zarrs_engine_calls.specs.Reach.{MayAskChunks, MayAskParts};
 ghost use Rattle.zarrs.specs.Arrays.{layout_of_array};
 ghost use Rattle.zarrs_directory.specs.Directory.{directory_of, directory_state};
-ghost use Rattle.zarr_arrays.specs.Reading.{HasRead, HasReadPart, KeepsRead};
+ghost use Rattle.zarr_arrays.specs.Reading.{HasRead, HasReadPart, KeepsRead, ReadsAtMost, ReadsNoOthers};
 
 use crate::opened::Store;
 use crate::refusals::Refusal;
@@ -40,7 +40,7 @@ fn chunks_of(array: &Array<()>, alloc: Global, region: &ArraySubset) -> Result<A
 }
 
 /// Reads the chunk with these indices. An index list of another length than the array has dimensions names no chunk.
-#[tactic(auto, using(crate::proofs::Asked::chunk_asked, crate::proofs::Asked::other_length, crate::proofs::Asked::keeps_read, crate::proofs::Asked::keeps_same))]
+#[tactic(auto, using(crate::proofs::Asked::chunk_asked, crate::proofs::Asked::other_length, crate::proofs::Asked::keeps_read, crate::proofs::Asked::keeps_same, crate::proofs::Asked::reads_at_most, crate::proofs::Asked::same_at_most))]
 pub(crate) fn read_chunk(
     array: &Array<()>,
     store: &mut Store<'_>,
@@ -49,6 +49,8 @@ pub(crate) fn read_chunk(
 ) -> Result<(), Refusal>
     ensures read { OnOk result (HasRead (layout_of_array array.now) store.new indices.now) }
     ensures kept { OnOk result (KeepsRead (layout_of_array array.now) store.old store.new) }
+    ensures most { OnOk result
+        (ReadsAtMost (layout_of_array array.now) store.old store.new indices.now) }
 {
     if indices.len() != array.dimensionality() {
         return Ok(());
@@ -69,6 +71,8 @@ pub(crate) fn read_chunks(
         (chunks_met (layout_of_array array.now).grid (box_of region.now))
         (directory_state store.new)) }
     ensures directory { OnOk result (directory_of store.new ≡ directory_of store.old) }
+    ensures no_others { OnOk result (ReadsNoOthers (layout_of_array array.now)
+        (chunks_met (layout_of_array array.now).grid (box_of region.now)) store.old store.new) }
 {
     let chunks = chunks_of(array, alloc, region)?;
     for indices in chunks.indices(alloc) {
@@ -86,7 +90,7 @@ fn covers(region: &ArraySubset, chunk: &ArraySubset) -> bool
 }
 
 /// Reads the chunk with these indices, if the region covers a part of it alone.
-#[tactic(auto, using(crate::proofs::Asked::is_no_part, crate::proofs::Asked::keeps_same))]
+#[tactic(auto, using(crate::proofs::Asked::is_no_part, crate::proofs::Asked::keeps_same, crate::proofs::Asked::same_at_most))]
 fn read_part(
     array: &Array<()>,
     store: &mut Store<'_>,
@@ -97,6 +101,8 @@ fn read_part(
     ensures read { OnOk result
         (HasReadPart (layout_of_array array.now) (box_of region.now) store.new indices.now) }
     ensures kept { OnOk result (KeepsRead (layout_of_array array.now) store.old store.new) }
+    ensures most { OnOk result
+        (ReadsAtMost (layout_of_array array.now) store.old store.new indices.now) }
 {
     let chunk = array.chunk_subset(alloc, indices)?;
     if covers(region, &chunk) {
@@ -117,6 +123,8 @@ pub(crate) fn read_parts(
         (chunks_met (layout_of_array array.now).grid (box_of region.now))
         (directory_state store.new)) }
     ensures directory { OnOk result (directory_of store.new ≡ directory_of store.old) }
+    ensures no_others { OnOk result (ReadsNoOthers (layout_of_array array.now)
+        (chunks_met (layout_of_array array.now).grid (box_of region.now)) store.old store.new) }
 {
     let chunks = chunks_of(array, alloc, region)?;
     for indices in chunks.indices(alloc) {

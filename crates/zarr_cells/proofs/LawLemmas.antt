@@ -1,10 +1,9 @@
 -- What is read of what was written.
-use Rattle.std.proofs.Common.{◌≡◌, ℕ, List, [], ◌++◌, Option, None, Some, length, take, drop, refl, sym, ap, ◌∙◌}
+use Rattle.std.proofs.Common.{◌≡◌, ℕ, List, [], ◌++◌, Option, None, Some, length, take, drop, sym, ap, ◌∙◌}
 use Rattle.std.specs.Io.KnownBytes.{Consumes}
 use Rattle.std.proofs.Math.Seq.{take-append_seam, drop-append_seam}
-use Rattle.zarrs_data_type.specs.ArrayData.{ArrayData, fixed}
-use Rattle.zarr_cells.specs.declared.form.Form.{Form}
-use Rattle.zarr_cells.specs.Lines.{cells_in, WritesCells, ReadsCells}
+use Rattle.zarrs_data_type.specs.ArrayData.{fixed}
+use Rattle.zarr_cells.specs.Lines.{cells_in}
 use Rattle.zarr_cells.specs.Laws.{LinesAreReadBack, RawIsReadBack}
 
 -- as many bytes as the text has are the text

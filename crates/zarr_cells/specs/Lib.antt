@@ -4,4 +4,5 @@ pub mod Lines
 pub mod Npy
 pub mod Numbers
 pub mod Raw
+pub mod Rows
 pub mod Words

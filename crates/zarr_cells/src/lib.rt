@@ -24,6 +24,6 @@ pub use error::CellsError;
 pub use form::{Form, Width};
 pub use lens::{CLEAR, Lens, seen};
 pub use lines::{Rows, read_cells, write_cells};
-pub use rows::{split_rows, with_rows};
+pub use rows::{long_axis, split_rows, with_rows};
 pub use texts::{read_texts, write_texts};
 pub use words::{numbers, region};

@@ -1,55 +1,67 @@
-//! Regions, cut along their first dimension.
-ghost use Rattle.std.specs.Prelude.{◌≡◌, ◌≤◌, ◌<◌, ◌++◌, ◌∷◌, drop, slice_index, IfOk, IfSome, MatchOption};
+//! Regions, cut along a dimension.
+ghost use Rattle.std.specs.Prelude.{◌≡◌, ◌≤◌, ◌<◌, ◌++◌, ◌+◌, ◌-◌, ℕ, length, slice_index, slice_set, IfOk};
 ghost use Rattle.zarrs_subset.specs.Regions.{box_of, positions};
+ghost use Rattle.zarr_cells.specs.Rows.{AreOnes};
 
 use crate::error::CellsError;
 use std::alloc::Global;
 use zarrs_subset::ArraySubset;
 
-/// Returns the region with this first row and so many rows.
+/// Returns the first dimension along which the region has another extent than 1; the number of its dimensions if none has.
+pub fn long_axis(region: &ArraySubset) -> usize
+    ensures ones { AreOnes (box_of region.now).shape result }
+    ensures inside { result ≤ length (box_of region.now).start }
+    ensures long { result < length (box_of region.now).start
+        → slice_index (box_of region.now).shape result ≡ 1 → ⊥ }
+{
+    let shape = region.shape();
+    for axis in 0..region.dimensionality() {
+        if shape[axis] != 1 {
+            return axis;
+        }
+    }
+    region.dimensionality()
+}
+
+/// Returns the region with this start and this extent along the axis.
 pub fn with_rows(
     alloc: Global,
     region: &ArraySubset,
+    axis: usize,
     first: u64,
     rows: u64,
 ) -> Result<ArraySubset, CellsError>
-    ensures start { IfOk result (λ b. (box_of b).start ≡ first ∷ drop 1 (box_of region.now).start) }
-    ensures shape { IfOk result (λ b. (box_of b).shape ≡ rows ∷ drop 1 (box_of region.now).shape) }
+    requires { axis < length (box_of region.now).start }
+    ensures start { IfOk result (λ b. (box_of b).start ≡ slice_set (box_of region.now).start axis first) }
+    ensures shape { IfOk result (λ b. (box_of b).shape ≡ slice_set (box_of region.now).shape axis rows) }
 {
-    let mut start = Vec::with_capacity(alloc, region.start().len())?;
-    start.push(first)?;
-    if let Some((_, others)) = region.start().split_first() {
-        start.extend_from_slice(others)?;
-    }
-    let mut shape = Vec::with_capacity(alloc, region.shape().len())?;
-    shape.push(rows)?;
-    if let Some((_, others)) = region.shape().split_first() {
-        shape.extend_from_slice(others)?;
-    }
+    let mut start = region.start().to_vec(alloc)?;
+    start[axis] = first;
+    let mut shape = region.shape().to_vec(alloc)?;
+    shape[axis] = rows;
     Ok(ArraySubset::new_with_start_shape(start, shape)?)
 }
 
-/// Cuts the first rows off the region: returns them, and what is left. The positions of the one, and then those of the
-/// other, are those of the region, and fewer rows are left than it has.
+/// Cuts the region along the axis, before which each extent is 1, after so many rows. The positions of the one part, and
+/// then those of the other, are those of the region.
 pub fn split_rows(
     alloc: Global,
     region: &ArraySubset,
+    axis: usize,
     rows: u64,
-) -> Result<(ArraySubset, Option<ArraySubset>), CellsError>
-    ensures places { IfOk result (λ cut. MatchOption cut.1
-        (positions (box_of cut.0) ≡ positions (box_of region.now))
-        (λ rest. positions (box_of cut.0) ++ positions (box_of rest)
-        ≡ positions (box_of region.now))) }
-    ensures fewer { 1 ≤ rows → IfOk result (λ cut. IfSome cut.1
-        (λ rest. slice_index (box_of rest).shape 0 < slice_index (box_of region.now).shape 0)) }
+) -> Result<(ArraySubset, ArraySubset), CellsError>
+    requires ones { AreOnes (box_of region.now).shape axis }
+    requires inside { axis < length (box_of region.now).start }
+    requires fewer { rows < slice_index (box_of region.now).shape axis }
+    ensures places { IfOk result (λ cut. positions (box_of cut.0) ++ positions (box_of cut.1)
+        ≡ positions (box_of region.now)) }
+    ensures rows { IfOk result (λ cut. (box_of cut.0).shape
+        ≡ slice_set (box_of region.now).shape axis rows) }
+    ensures others { IfOk result (λ cut. (box_of cut.1).shape ≡ slice_set (box_of region.now).shape
+        axis (slice_index (box_of region.now).shape axis - rows)) }
 {
-    if region.dimensionality() > 0 && rows < region.shape()[0] {
-        let (first, extent) = (region.start()[0], region.shape()[0]);
-        let band = with_rows(alloc, region, first, rows)?;
-        let rest = with_rows(alloc, region, first + rows, extent - rows)?;
-        return Ok((band, Some(rest)));
-    }
-    let start = region.start().to_vec(alloc)?;
-    let shape = region.shape().to_vec(alloc)?;
-    Ok((ArraySubset::new_with_start_shape(start, shape)?, None))
+    let (first, extent) = (region.start()[axis], region.shape()[axis]);
+    let band = with_rows(alloc, region, axis, first, rows)?;
+    let rest = with_rows(alloc, region, axis, first + rows, extent - rows)?;
+    Ok((band, rest))
 }

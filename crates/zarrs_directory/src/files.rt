@@ -6,7 +6,7 @@ ghost use Rattle.zarrs_directory.specs.Directory.{IsName, names_of};
 use crate::names::{is_path, joined};
 use std::alloc::{AllocError, Global};
 use std::fs::{self, File, OpenFile};
-use std::io::{self, ErrorKind, Write};
+use std::io::{self, ErrorKind, Read, Write};
 use std::rt::Files;
 use zarrs_storage::{StorageError, StoreKey};
 
@@ -27,6 +27,15 @@ fn refusal(alloc: Global, key: &StoreKey, error: io::Error) -> StorageError {
         Ok(text) => StorageError::Other(text),
         Err(_) => StorageError::OutOfMemory,
     }
+}
+
+/// Returns the bytes of the file. Room is made once: for all of them, and for one more, by which the end is found.
+fn read_whole<R: Files + AllocGlobal>(files: &R, path: &str) -> io::Result<Vec<u8>> {
+    let mut file = File::open(files, path)?;
+    let size = file.metadata()?.len();
+    let mut bytes = Vec::with_capacity(files.alloc(), (size as usize).saturating_add(1))?;
+    file.read_to_end(&mut bytes)?;
+    Ok(bytes)
 }
 
 /// Makes the folder that the file lies in.
@@ -105,7 +114,7 @@ impl<'r, R: Files + AllocGlobal> Directory<'r, R> {
 
     fn read_file(&self, alloc: Global, key: &StoreKey) -> io::Result<Option<Vec<u8>>> {
         let path = self.path_of(alloc, key)?;
-        match fs::read(self.rt, path.as_str()) {
+        match read_whole(self.rt, path.as_str()) {
             Ok(bytes) => Ok(Some(bytes)),
             Err(error) if is_absent(&error) => Ok(None),
             Err(error) => Err(error),

@@ -7,25 +7,32 @@ const ABOUT: &str =
 
 /// A command.
 #[derive(Clone, Copy, Debug, PartialEq, Eq)]
-pub(crate) enum Command {
+pub enum Command {
     Info,
+    Create,
+    Do,
+    /// A command on one array, which is opened first.
+    OnArray(ArrayCommand),
+}
+
+/// A command on one array.
+#[derive(Clone, Copy, Debug, PartialEq, Eq)]
+pub enum ArrayCommand {
     Get,
     Put,
-    Create,
     Resize,
     Upgrade,
     Compact,
     Reencode,
     Check,
     Diff,
-    Do,
 }
 
 /// How a command is used.
 #[derive(Clone, Copy, Debug)]
-pub(crate) struct Usage {
-    pub(crate) command: Command,
-    pub(crate) name: &'static str,
+pub struct Usage {
+    pub command: Command,
+    pub name: &'static str,
     about: &'static str,
     /// The words that stand in their places; one with `?` may be left out.
     places: &'static str,
@@ -50,14 +57,14 @@ const USAGES: [Usage; 11] = [
         options: "json",
     },
     Usage {
-        command: Command::Get,
+        command: Command::OnArray(ArrayCommand::Get),
         name: "get",
         about: "writes cells",
         places: "dir start? shape?",
         options: "raw npy to=",
     },
     Usage {
-        command: Command::Put,
+        command: Command::OnArray(ArrayCommand::Put),
         name: "put",
         about: "stores cells",
         places: "dir start? shape?",
@@ -71,42 +78,42 @@ const USAGES: [Usage; 11] = [
         options: "shape! chunks! type! fill= shard= separator= v2",
     },
     Usage {
-        command: Command::Resize,
+        command: Command::OnArray(ArrayCommand::Resize),
         name: "resize",
         about: "changes the shape of an array",
         places: "dir shape",
         options: "",
     },
     Usage {
-        command: Command::Upgrade,
+        command: Command::OnArray(ArrayCommand::Upgrade),
         name: "upgrade",
         about: "makes a V2 array a V3 array",
         places: "dir",
         options: "",
     },
     Usage {
-        command: Command::Compact,
+        command: Command::OnArray(ArrayCommand::Compact),
         name: "compact",
         about: "compacts the shards of an array",
         places: "dir",
         options: "",
     },
     Usage {
-        command: Command::Reencode,
+        command: Command::OnArray(ArrayCommand::Reencode),
         name: "reencode",
         about: "makes an array of the same cells in other chunks",
         places: "dir to",
         options: "chunks= shard= endian=",
     },
     Usage {
-        command: Command::Check,
+        command: Command::OnArray(ArrayCommand::Check),
         name: "check",
         about: "reads each chunk of an array",
         places: "dir",
         options: "",
     },
     Usage {
-        command: Command::Diff,
+        command: Command::OnArray(ArrayCommand::Diff),
         name: "diff",
         about: "compares the cells of two arrays",
         places: "dir to",
@@ -122,7 +129,7 @@ const USAGES: [Usage; 11] = [
 ];
 
 /// Returns how the command of this name is used.
-pub(crate) fn usage_of(name: &str) -> Option<Usage> {
+pub fn usage_of(name: &str) -> Option<Usage> {
     for usage in &USAGES {
         if usage.name == name {
             return Some(*usage);
@@ -188,7 +195,7 @@ impl Usage {
     }
 
     /// Returns a line that says the words of the command.
-    pub(crate) fn line(&self, alloc: Global) -> Result<String, AllocError> {
+    pub fn line(&self, alloc: Global) -> Result<String, AllocError> {
         let mut line = format!(in alloc; "zarr {}", self.name)?;
         for said in self.places.split_ascii_whitespace() {
             match place_said(said) {
@@ -215,13 +222,13 @@ fn write_word(line: &mut String, before: &str, name: &str, behind: &str) -> Resu
 }
 
 /// Returns what the command does, and its words.
-pub(crate) fn command_help(alloc: Global, usage: &Usage) -> Result<String, AllocError> {
+pub fn command_help(alloc: Global, usage: &Usage) -> Result<String, AllocError> {
     let line = usage.line(alloc)?;
     format!(in alloc; "{}\n\nUsage: {line}", usage.about)
 }
 
 /// Returns what the program is, and its commands.
-pub(crate) fn program_help(alloc: Global) -> Result<String, AllocError> {
+pub fn program_help(alloc: Global) -> Result<String, AllocError> {
     let mut text = format!(in alloc; "{ABOUT}\n\nUsage: zarr <command>\n\nCommands:")?;
     for usage in &USAGES {
         let line = usage.line(alloc)?;

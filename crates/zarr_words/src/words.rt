@@ -1,22 +1,22 @@
 //! The words of a command line, by their names.
+use crate::error::WordsError;
 use crate::usages::{OptionKind, Usage};
 use std::alloc::{AllocError, Global};
-use zarr_arrays::Refusal;
 
 /// The words that were given to a command.
 #[derive(Debug, Drop)]
-pub(crate) struct Given<'a> {
+pub struct Given<'a> {
     /// How many places are filled.
     places: usize,
     /// Names with their values; an option without a value has an empty one.
     values: Vec<(&'a str, &'a str)>,
 }
 
-/// Returns the refusal that says this of the word.
-fn refused(alloc: Global, about: &str, word: &str) -> Refusal {
+/// Returns the error that says this of the word.
+fn refused(alloc: Global, about: &str, word: &str) -> WordsError {
     match format!(in alloc; "{about} `{word}`") {
-        Ok(text) => Refusal::Said(text),
-        Err(_) => Refusal::OutOfMemory,
+        Ok(text) => WordsError::Said(text),
+        Err(_) => WordsError::OutOfMemory,
     }
 }
 
@@ -36,7 +36,12 @@ impl<'a> Given<'a> {
     }
 
     /// Puts the word into the next place.
-    fn take_place(&mut self, alloc: Global, usage: &Usage, word: &'a str) -> Result<(), Refusal> {
+    fn take_place(
+        &mut self,
+        alloc: Global,
+        usage: &Usage,
+        word: &'a str,
+    ) -> Result<(), WordsError> {
         let Some(name) = usage.place(self.places) else {
             return Err(refused(alloc, "nothing is known of the word", word));
         };
@@ -51,7 +56,7 @@ impl<'a> Given<'a> {
         usage: &Usage,
         name: &'a str,
         value: Option<&'a str>,
-    ) -> Result<Option<&'a str>, Refusal> {
+    ) -> Result<Option<&'a str>, WordsError> {
         match (usage.option(name), value) {
             (Some((known, OptionKind::Flag)), None) => self.add(known, "")?,
             (None, _) | (Some((_, OptionKind::Flag)), Some(_)) => {
@@ -69,7 +74,7 @@ impl<'a> Given<'a> {
         alloc: Global,
         usage: &Usage,
         word: &'a str,
-    ) -> Result<Option<&'a str>, Refusal> {
+    ) -> Result<Option<&'a str>, WordsError> {
         match option_of(word) {
             Some((name, value)) => self.take_option(alloc, usage, name, value),
             None => {
@@ -80,7 +85,7 @@ impl<'a> Given<'a> {
     }
 
     /// Asks that each word is there that has to be.
-    fn need_all(&self, alloc: Global, usage: &Usage) -> Result<(), Refusal> {
+    fn need_all(&self, alloc: Global, usage: &Usage) -> Result<(), WordsError> {
         if let Some(name) = usage.place_missing(self.places) {
             return Err(refused(alloc, "missing:", name));
         }
@@ -96,11 +101,7 @@ impl<'a> Given<'a> {
     ///
     /// # Errors
     /// A word too many or too few, an option that is not known or has no value.
-    pub(crate) fn of(
-        alloc: Global,
-        usage: &Usage,
-        words: &'a [String],
-    ) -> Result<Given<'a>, Refusal> {
+    pub fn of(alloc: Global, usage: &Usage, words: &'a [String]) -> Result<Given<'a>, WordsError> {
         let mut given = Given {
             places: 0,
             values: Vec::new(alloc),
@@ -123,7 +124,7 @@ impl<'a> Given<'a> {
     }
 
     /// Returns the value of this name, if it was given.
-    pub(crate) fn get(&self, name: &str) -> Option<&'a str> {
+    pub fn get(&self, name: &str) -> Option<&'a str> {
         for (known, value) in &self.values {
             if *known == name {
                 return Some(*value);
@@ -133,12 +134,12 @@ impl<'a> Given<'a> {
     }
 
     /// Returns whether the word of this name was given.
-    pub(crate) fn has(&self, name: &str) -> bool {
+    pub fn has(&self, name: &str) -> bool {
         self.get(name).is_some()
     }
 
     /// Returns the value that was given, or an empty one.
-    pub(crate) fn value(&self, name: &str) -> &'a str {
+    pub fn value(&self, name: &str) -> &'a str {
         self.get(name).unwrap_or("")
     }
 }

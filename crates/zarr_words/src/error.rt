@@ -1,0 +1,27 @@
+//! Why the words of a command are refused.
+use std::alloc::AllocError;
+use std::fmt;
+
+/// Why the words of a command are refused.
+#[derive(Debug, Drop)]
+pub enum WordsError {
+    /// A word too many or too few, an option that is not known or has no value.
+    Said(String),
+    /// Out of memory.
+    OutOfMemory,
+}
+
+impl fmt::Display for WordsError {
+    fn fmt<W: fmt::Write>(&self, f: &mut fmt::Formatter<W>) -> fmt::Result {
+        match self {
+            WordsError::Said(text) => f.write_str(text.as_str()),
+            WordsError::OutOfMemory => f.write_str("E9: out of memory"),
+        }
+    }
+}
+
+impl From<AllocError> for WordsError {
+    fn from(_error: AllocError) -> WordsError {
+        WordsError::OutOfMemory
+    }
+}
