@@ -119,6 +119,12 @@ cells_of k d = unwrap_or (cells k d) []
 
 -- ---- why the encoding of subchunks refuses. Out of memory may come at any time
 
+-- the chain does not take chunks of this shape
+abbrev pub RefusesCut : ChainMeaning → Kind → (shape : List ℕ) → CodecError → Type 0
+RefusesCut m k s (error.DoesNotFit _) = m.fits k s ≡ false
+RefusesCut m k s error.SizeOverflow = ⊥
+RefusesCut m k s error.OutOfMemory = Unit {0}
+
 -- the inner chain does not take them, or else a size is too large
 abbrev pub RefusesPart : SubchunkMeaning → Bool → Cell → List Cell → CodecError → Type 0
 RefusesPart m empty f cs (error.DoesNotFit _) = m.fits ≡ false

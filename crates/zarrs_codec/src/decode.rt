@@ -112,17 +112,7 @@ impl ShardingCodec {
         ensures refused { IfErr result (RefusesToDecode (sharding_meaning self.now) chunk.now
             encoded.now) }
     {
-        let sub = self.extents(alloc)?;
-        let Some(subchunks) = Subchunks::new(alloc, chunk.shape, &sub)? else {
-            return Err(CodecError::DoesNotFit(Misfit::TypeOrShape));
-        };
-        let cell_type = chunk.cell_type;
-        if !self
-            .inner_codecs()
-            .fits_chunk(alloc, &cell_type.data_type, &sub)?
-        {
-            return Err(CodecError::DoesNotFit(Misfit::TypeOrShape));
-        }
+        let subchunks = self.subchunks_of(alloc, chunk)?;
         let Some(count) = subchunks.count() else {
             return Err(CodecError::DoesNotFit(Misfit::Bytes));
         };
@@ -130,7 +120,7 @@ impl ShardingCodec {
         let Some(ranges) = read_index(alloc, encoded, count, at_start)? else {
             return Err(CodecError::DoesNotFit(Misfit::Bytes));
         };
-        self.decode_parts(alloc, encoded, &ranges, &subchunks, cell_type)
+        self.decode_parts(alloc, encoded, &ranges, &subchunks, chunk.cell_type)
     }
 
     /// The cells of the subchunks of an array, which stand at these ranges of its shard.

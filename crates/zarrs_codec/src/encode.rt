@@ -137,18 +137,8 @@ impl ShardingCodec {
         ensures refused { IfErr result (RefusesToEncode (sharding_meaning self.now)
             (stores_empty_chunks options.now) chunk.now (data_of bytes.now)) }
     {
-        let sub = self.extents(alloc)?;
-        let Some(subchunks) = Subchunks::new(alloc, chunk.shape, &sub)? else {
-            return Err(CodecError::DoesNotFit(Misfit::TypeOrShape));
-        };
-        let cell_type = chunk.cell_type;
-        if !self
-            .inner_codecs()
-            .fits_chunk(alloc, &cell_type.data_type, &sub)?
-        {
-            return Err(CodecError::DoesNotFit(Misfit::TypeOrShape));
-        }
-        self.encode_parts(alloc, bytes, cell_type, &subchunks, options)
+        let subchunks = self.subchunks_of(alloc, chunk)?;
+        self.encode_parts(alloc, bytes, chunk.cell_type, &subchunks, options)
     }
 
     /// The shard of the subchunks of an array.

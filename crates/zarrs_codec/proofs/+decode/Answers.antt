@@ -1,3 +1,5 @@
+use Rattle.zarrs_codec_chain.specs.Chunks.{RefusesToDecode}
+use Rattle.zarrs_codec.proofs.Cuts.{cut_decoding}
 use Rattle.zarrs_data_type.specs.CellTypes.{chunk_fill, chunk_kind, filling, kind_of}
 use Rattle.std.proofs.Common.{rules, arith, ◌≡◌, ◌∙◌, ◌<◌, ◌*◌, ◌≤◌, ◌^◌, true, false, List, map, length, get_or, Some, None, Option, sym, ap, subst}
 use Rattle.std.specs.Prelude.{is_some, slice_range, option_map, IsSome}
@@ -229,24 +231,20 @@ sharding::ShardingCodec::decode_shard-decode_parts-requires t c =
     let s = c.args.chunk.now.shape.now in
     let sub = sizes_of (subchunk_sizes_of c.args.self.now) in
     let b = c.args.encoded.now in
-    let subchunks = c.in-Some.subchunks in
-    let ranges = c.deref-3.result.now in
+    let subchunks = c.in_ok-subchunks.subchunks in
+    let ranges = c.deref.result.now in
     let m : ChainMeaning = chain_meaning (inner_chain_of c.args.self.now) in
     let at = is_at_start (location_of c.args.self.now) in
     let at_is : c.is_at_start-at_start.result ≡ at = c.is_at_start-at_start.ensures ∙ ap is_at_start c.index_location.ensures in
-    let sub_is : c.in_ok-sub.sub.items ≡ sub = c.in_ok-sub.ensures in
-    let shape_is : chunk_shape subchunks ≡ s = search rules in
-    let cut_is : subchunk_shape subchunks ≡ c.deref.result.now = search rules in
-    let fit : m.fits k sub ≡ true =
-    subst (λ x. m.fits k x ≡ true) (c.deref-2.ensures.value ∙ sub_is)
-    (subst (λ x. (chain_meaning x).fits k c.deref-2.result.now ≡ true) c.inner_codecs.ensures (sym c.in_ok-fits_chunk.ensures ∙ c.if-not-branch.false)) in
-    let read : shard_parts c.is_at_start-at_start.result c.in-Some-count.count b ≡ Some (map (range_part b) c.in-Some-2.ranges.items) = search rules in
+    let shape_is = c.in_ok-subchunks.ensures.shape in
+    let sub_is = c.in_ok-subchunks.ensures.sub in
+    let read : shard_parts c.is_at_start-at_start.result c.in-Some.count b ≡ Some (map (range_part b) c.in-Some-2.ranges.items) = search rules in
     let r : IsRead m at k f s sub b (chunk_shape subchunks) (subchunk_shape subchunks) (map (range_part b) ranges) =
-    is_read m at k f s sub b (chunk_shape subchunks) (subchunk_shape subchunks) (map (range_part b) ranges) c.in-Some-count.count shape_is (cut_is ∙ c.deref.ensures.value ∙ sub_is) subchunks.cut fit c.in-Some-count.ensures
-    (subst (λ x. shard_parts x c.in-Some-count.count b ≡ Some (map (range_part b) ranges)) at_is (read ∙ ap (λ l. Some (map (range_part b) l)) (sym c.deref-3.ensures.value))) in
+    is_read m at k f s sub b (chunk_shape subchunks) (subchunk_shape subchunks) (map (range_part b) ranges) c.in-Some.count shape_is sub_is subchunks.cut (subst (λ x. m.fits k x ≡ true) sub_is c.in_ok-subchunks.ensures.fits) c.in-Some.ensures
+    (subst (λ x. shard_parts x c.in-Some.count b ≡ Some (map (range_part b) ranges)) at_is (read ∙ ap (λ l. Some (map (range_part b) l)) (sym c.deref.ensures.value))) in
     let size = subst (λ x. position_count x * cell_size k < 2 ^ 64) (sym shape_is) c.requires.size in
     let within : All (IsRangeWithin (length b)) c.in-Some-2.ranges.items = search rules in
-    (first_of (omega (arith, c.decreases), search rules), (size, (subst (λ l. All (IsRangeWithin (length b)) l) (sym c.deref-3.ensures.value) within, sym (length-map ranges (range_part b)) ∙ r.long)))
+    (first_of (omega (arith, c.decreases), search rules), (size, (subst (λ l. All (IsRangeWithin (length b)) l) (sym c.deref.ensures.value) within, sym (length-map ranges (range_part b)) ∙ r.long)))
 
 pub sharding::ShardingCodec::decode_shard-returns :
     goal.sharding::ShardingCodec::decode_shard-returns
@@ -256,21 +254,17 @@ sharding::ShardingCodec::decode_shard-returns t c =
     let s = c.args.chunk.now.shape.now in
     let sub = sizes_of (subchunk_sizes_of c.args.self.now) in
     let b = c.args.encoded.now in
-    let subchunks = c.in-Some.subchunks in
-    let ranges = c.deref-3.result.now in
+    let subchunks = c.in_ok-subchunks.subchunks in
+    let ranges = c.deref.result.now in
     let m : ChainMeaning = chain_meaning (inner_chain_of c.args.self.now) in
     let at = is_at_start (location_of c.args.self.now) in
     let at_is : c.is_at_start-at_start.result ≡ at = c.is_at_start-at_start.ensures ∙ ap is_at_start c.index_location.ensures in
-    let sub_is : c.in_ok-sub.sub.items ≡ sub = c.in_ok-sub.ensures in
-    let shape_is : chunk_shape subchunks ≡ s = search rules in
-    let cut_is : subchunk_shape subchunks ≡ c.deref.result.now = search rules in
-    let fit : m.fits k sub ≡ true =
-    subst (λ x. m.fits k x ≡ true) (c.deref-2.ensures.value ∙ sub_is)
-    (subst (λ x. (chain_meaning x).fits k c.deref-2.result.now ≡ true) c.inner_codecs.ensures (sym c.in_ok-fits_chunk.ensures ∙ c.if-not-branch.false)) in
-    let read : shard_parts c.is_at_start-at_start.result c.in-Some-count.count b ≡ Some (map (range_part b) c.in-Some-2.ranges.items) = search rules in
+    let shape_is = c.in_ok-subchunks.ensures.shape in
+    let sub_is = c.in_ok-subchunks.ensures.sub in
+    let read : shard_parts c.is_at_start-at_start.result c.in-Some.count b ≡ Some (map (range_part b) c.in-Some-2.ranges.items) = search rules in
     let r : IsRead m at k f s sub b (chunk_shape subchunks) (subchunk_shape subchunks) (map (range_part b) ranges) =
-    is_read m at k f s sub b (chunk_shape subchunks) (subchunk_shape subchunks) (map (range_part b) ranges) c.in-Some-count.count shape_is (cut_is ∙ c.deref.ensures.value ∙ sub_is) subchunks.cut fit c.in-Some-count.ensures
-    (subst (λ x. shard_parts x c.in-Some-count.count b ≡ Some (map (range_part b) ranges)) at_is (read ∙ ap (λ l. Some (map (range_part b) l)) (sym c.deref-3.ensures.value))) in
+    is_read m at k f s sub b (chunk_shape subchunks) (subchunk_shape subchunks) (map (range_part b) ranges) c.in-Some.count shape_is sub_is subchunks.cut (subst (λ x. m.fits k x ≡ true) sub_is c.in_ok-subchunks.ensures.fits) c.in-Some.ensures
+    (subst (λ x. shard_parts x c.in-Some.count b ≡ Some (map (range_part b) ranges)) at_is (read ∙ ap (λ l. Some (map (range_part b) l)) (sym c.deref.ensures.value))) in
     record {
       cells = subst (λ (x : Option (List Cell)). IfOk c.decode_parts.result (λ made. cells k (data_of made) ≡ x)) (sym r.cells_are) c.decode_parts.ensures.cells;
       some = c.decode_parts.ensures.some;
@@ -341,3 +335,10 @@ chain::CodecChain::decode_chunk-returns-in-Sharding-clause-refused t c =
     (subst (λ x. RefusesChunkDecoding (behind x (sharding_meaning codec)) k f s b e) c.deref-in-Sharding.ensures.value
     (subst (λ x. RefusesChunkDecoding (behind c.deref-in-Sharding.result.now (sharding_meaning x)) k f s b e) c.deref.ensures why)))
     c.decode_behind.ensures.refused
+
+pub sharding::ShardingCodec::decode_shard-returns-in_err-subchunks-clause-refused : goal.sharding::ShardingCodec::decode_shard-returns-in_err-subchunks-clause-refused
+sharding::ShardingCodec::decode_shard-returns-in_err-subchunks-clause-refused t c =
+    let x = c.args.self.now in
+    let e = c.in_err-subchunks.field-0.0 in
+    err_kept c.from_residual.result e (RefusesToDecode (sharding_meaning x) c.args.chunk.now c.args.encoded.now) c.from_residual.ensures.1
+    (cut_decoding (chain_meaning (inner_chain_of x)) (is_at_start (location_of x)) (chunk_kind c.args.chunk.now) (chunk_fill c.args.chunk.now) c.args.chunk.now.shape.now (sizes_of (subchunk_sizes_of x)) c.args.encoded.now e c.in_err-subchunks.ensures.refused)

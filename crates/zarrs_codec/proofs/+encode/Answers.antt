@@ -1,3 +1,7 @@
+use Rattle.zarrs_codec_optional.specs.ShardingMetadata.{sizes_of}
+use Rattle.zarrs_codec.specs.Chains.{subchunk_sizes_of}
+use Rattle.zarrs_codec_chain.specs.Chunks.{RefusesToEncode}
+use Rattle.zarrs_codec.proofs.Cuts.{cut_encoding}
 use Rattle.zarrs_data_type.specs.CellTypes.{chunk_fill, chunk_kind, filling, kind_of}
 use Rattle.std.proofs.Common.{rules, arith, ◌≡◌, ℕ, ◌<◌, ◌^◌, Bool, true, List, length, Option, Some, IfOk, option_map, sym, ap, subst, ◌∙◌}
 use Rattle.std.specs.Prelude.{IfSome}
@@ -310,3 +314,10 @@ sharding::ShardingCodec::encode_behind-returns-clause-refused t c =
     IfErr-weaker c.encode_shard-in-None.result _ _
     (λ err why. b.refusal err (subst (λ x. RefusesChunkEncoding m empty k f x e err) c.deref.ensures.value why))
     c.encode_shard-in-None.ensures.refused
+
+pub sharding::ShardingCodec::encode_shard-returns-in_err-subchunks-clause-refused : goal.sharding::ShardingCodec::encode_shard-returns-in_err-subchunks-clause-refused
+sharding::ShardingCodec::encode_shard-returns-in_err-subchunks-clause-refused t c =
+    let x = c.args.self.now in
+    let e = c.in_err-subchunks.field-0.0 in
+    err_kept c.from_residual.result e (RefusesToEncode (sharding_meaning x) (stores_empty_chunks c.args.options.now) c.args.chunk.now (data_of c.args.bytes.now)) c.from_residual.ensures.1
+    (cut_encoding (chain_meaning (inner_chain_of x)) (is_at_start (location_of x)) (chunk_kind c.args.chunk.now) (chunk_fill c.args.chunk.now) c.args.chunk.now.shape.now (sizes_of (subchunk_sizes_of x)) (stores_empty_chunks c.args.options.now) (data_of c.args.bytes.now) e c.in_err-subchunks.ensures.refused)

@@ -67,21 +67,16 @@ sharding::ShardingCodec::decode_piece-returns-in_default-2-clause-none g t c =
     let m : ChainMeaning = chain_meaning (inner_chain_of c.args.self.now) in
     let dec = m.decoded k f r.sub in
     let i = c.args.indices.now in
-    let n = c.in-Some.number in
     let at = c.in-Some.ensures.number in
     λ held. skip_none r is k dec f i held ((rw c.in_default-2.is at c.in_ok-share.ensures.none) i at)
 
 pub sharding::ShardingCodec::decode_piece-subchunk-requires : goal.sharding::ShardingCodec::decode_piece-subchunk-requires
 sharding::ShardingCodec::decode_piece-subchunk-requires g t c =
-    let i = c.args.indices.now in
-    let n = c.in-Some.number in
     let at = c.in-Some.ensures.number in
     at.below
 
 pub sharding::ShardingCodec::decode_piece-share-requires : goal.sharding::ShardingCodec::decode_piece-share-requires
 sharding::ShardingCodec::decode_piece-share-requires g t c =
-    let i = c.args.indices.now in
-    let n = c.in-Some.number in
     let at = c.in-Some.ensures.number in
     at.below
 
@@ -92,7 +87,6 @@ sharding::ShardingCodec::decode_piece-returns-in_err-cells-clause-refused g t c 
     let r = read_of c.args.read.now in
     let is = opened c.args.read.now in
     let m : ChainMeaning = chain_meaning (inner_chain_of c.args.self.now) in
-    let dec = m.decoded k f r.sub in
     let i = c.args.indices.now in
     let n = c.in-Some.number in
     let at = c.in-Some.ensures.number in
@@ -114,7 +108,6 @@ sharding::ShardingCodec::decode_piece-returns-clause-piece g t c =
     let r = read_of c.args.read.now in
     let is = opened c.args.read.now in
     let m : ChainMeaning = chain_meaning (inner_chain_of c.args.self.now) in
-    let dec = m.decoded k f r.sub in
     let i = c.args.indices.now in
     let n = c.in-Some.number in
     let at = c.in-Some.ensures.number in
@@ -130,11 +123,9 @@ sharding::ShardingCodec::decode_piece-returns-clause-piece g t c =
 pub sharding::ShardingCodec::decode_piece-partial_decode_inner-requires : goal.sharding::ShardingCodec::decode_piece-partial_decode_inner-requires
 sharding::ShardingCodec::decode_piece-partial_decode_inner-requires g t c κs within =
     let k = kind_of c.args.cell_type.now in
-    let f = filling c.args.cell_type.now in
     let r = read_of c.args.read.now in
     let is = opened c.args.read.now in
     let m : ChainMeaning = chain_meaning (inner_chain_of c.args.self.now) in
-    let dec = m.decoded k f r.sub in
     let i = c.args.indices.now in
     let n = c.in-Some.number in
     let at = c.in-Some.ensures.number in
@@ -156,7 +147,6 @@ sharding::ShardingCodec::read_subchunk-decode_piece-requires g t c κs within =
 pub sharding::ShardingCodec::read_subchunk-with_owned_part-requires-clause-dimensions : goal.sharding::ShardingCodec::read_subchunk-with_owned_part-requires-clause-dimensions
 sharding::ShardingCodec::read_subchunk-with_owned_part-requires-clause-dimensions g t c =
     let has = rw c.in-Some.is at c.in_ok-piece.ensures.piece in
-    let piece = c.in-Some.piece in
     has.dimensions
 
 pub sharding::ShardingCodec::read_subchunk-with_owned_part-requires-clause-part : goal.sharding::ShardingCodec::read_subchunk-with_owned_part-requires-clause-part
@@ -240,7 +230,6 @@ sharding::ShardingCodec::read_subchunks-returns-then-not-advance-clause-all g t 
     let k = kind_of c.args.cell_type.now in
     let f = filling c.args.cell_type.now in
     let r = read_of c.args.read.now in
-    let is = opened c.args.read.now in
     let m : ChainMeaning = chain_meaning (inner_chain_of c.args.self.now) in
     let dec = m.decoded k f r.sub in
     let walk = c.loop-walk.walk in
@@ -259,7 +248,6 @@ sharding::ShardingCodec::read_subchunks-loop-walk-preserved g t c =
     let k = kind_of c.args.cell_type.now in
     let f = filling c.args.cell_type.now in
     let r = read_of c.args.read.now in
-    let is = opened c.args.read.now in
     let m : ChainMeaning = chain_meaning (inner_chain_of c.args.self.now) in
     let dec = m.decoded k f r.sub in
     let walk = c.loop-walk.walk in
@@ -281,7 +269,6 @@ sharding::ShardingCodec::read_subchunks-read_subchunk-requires g t c κs within 
     let k = kind_of c.args.cell_type.now in
     let f = filling c.args.cell_type.now in
     let r = read_of c.args.read.now in
-    let is = opened c.args.read.now in
     let m : ChainMeaning = chain_meaning (inner_chain_of c.args.self.now) in
     let dec = m.decoded k f r.sub in
     let held = walked_cells k dec f r.shape r.sub r.part (parts_of r) _ (region_data c.loop-walk.made) c.loop-walk.invariant.read in
@@ -372,7 +359,6 @@ sharding::ShardingCodec::partial_decode_shard-returns-clause-refused g t c =
     let chunk = c.args.chunk.now in
     let at_is : c.is_at_start-at_start.result ≡ is_at_start (location_of x) = c.is_at_start-at_start.ensures ∙ ap is_at_start c.index_location.ensures in
     let sub_is : c.deref.result.now ≡ sizes_of (subchunk_sizes_of x) = c.deref.ensures.value ∙ c.in_ok-sub.ensures in
-    let r_of = λ (at : Bool) (sub : List ℕ). shard_read at (shape_of chunk) sub (box_of c.args.part.now) (bytes_of stored) (refuses_of stored) in
     let none = rw c.in-None.is at c.in_ok-read.ensures.none in
     let at = is_at_start (location_of x) in
     let m : ChainMeaning = chain_meaning (inner_chain_of x) in

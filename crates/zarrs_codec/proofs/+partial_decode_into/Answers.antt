@@ -47,7 +47,6 @@ sharding::ShardingCodec::read_subchunk_into-returns-in_default-clause-read g t c
     let k = kind_of c.args.cell_type.now in
     let f = filling c.args.cell_type.now in
     let r = read_of c.args.read.now in
-    let is = opened c.args.read.now in
     let m : ChainMeaning = chain_meaning (inner_chain_of c.args.self.now) in
     let dec = m.decoded k f r.sub in
     let t = c.args.target.now in
@@ -65,45 +64,33 @@ sharding::ShardingCodec::read_subchunk_into-returns-in_default-2-clause-read g t
     let t = c.args.target.now in
     let region = target_box t in
     let i = c.args.indices.now in
-    let n = c.in-Some.number in
     let at = c.in-Some.ensures.number in
     skip_at k dec f r.shape r.sub r.part (parts_of r) (parent_box t) region i (data_of_target t) ((rw c.in_default-2.is at c.in_ok-share.ensures.none) i at)
 
 pub sharding::ShardingCodec::read_subchunk_into-share-requires : goal.sharding::ShardingCodec::read_subchunk_into-share-requires
 sharding::ShardingCodec::read_subchunk_into-share-requires g t c =
-    let i = c.args.indices.now in
-    let n = c.in-Some.number in
     let at = c.in-Some.ensures.number in
     at.below
 
 pub sharding::ShardingCodec::read_subchunk_into-subchunk-stored-requires : goal.sharding::ShardingCodec::read_subchunk_into-subchunk-stored-requires
 sharding::ShardingCodec::read_subchunk_into-subchunk-stored-requires g t c =
-    let i = c.args.indices.now in
-    let n = c.in-Some.number in
     let at = c.in-Some.ensures.number in
     at.below
 
 pub sharding::ShardingCodec::read_subchunk_into-moved_to-requires-clause-lies : goal.sharding::ShardingCodec::read_subchunk_into-moved_to-requires-clause-lies
 sharding::ShardingCodec::read_subchunk_into-moved_to-requires-clause-lies g t c =
-    let r = read_of c.args.read.now in
     let i = c.args.indices.now in
-    let n = c.in-Some.number in
     let at = c.in-Some.ensures.number in
     let share = (rw c.in-Some-2.is at c.in_ok-share.ensures.share) i at in
     share.shared_lies
 
 pub sharding::ShardingCodec::read_subchunk_into-read_piece-requires : goal.sharding::ShardingCodec::read_subchunk_into-read_piece-requires
 sharding::ShardingCodec::read_subchunk_into-read_piece-requires g t c κs within =
-    let k = kind_of c.args.cell_type.now in
-    let f = filling c.args.cell_type.now in
     let r = read_of c.args.read.now in
     let is = opened c.args.read.now in
-    let m : ChainMeaning = chain_meaning (inner_chain_of c.args.self.now) in
-    let dec = m.decoded k f r.sub in
     let t = c.args.target.now in
     let region = target_box t in
     let i = c.args.indices.now in
-    let n = c.in-Some.number in
     let at = c.in-Some.ensures.number in
     let share = (rw c.in-Some-2.is at c.in_ok-share.ensures.share) i at in
     let shared = box_of c.in-Some-2.share.shared in
@@ -113,8 +100,6 @@ sharding::ShardingCodec::read_subchunk_into-read_piece-requires g t c κs within
     let own_long = t.region.now.same_length in
     let own = box_of c.in_ok-own.own in
     let own_is : own ≡ moved_box region r.part shared = c.in_ok-own.ensures in
-    let stored = c.subchunk-stored.result in
-    let bytes_are = c.subchunk-stored.ensures.bytes in
     let lies = subst (LiesInShape piece) (sym shape_is) share.own_lies in
     let own_lies = subst (λ (b : Box). LiesInBox b region) (sym own_is) (moved_lies region r.part shared own_long is.long shared_long c.requires.same_shape share.shared_lies) in
     let same_shape : own.shape ≡ piece.shape = ap (λ (b : Box). b.shape) own_is ∙ sym (ap (λ (b : Box). b.shape) share.own_is) in
@@ -122,27 +107,18 @@ sharding::ShardingCodec::read_subchunk_into-read_piece-requires g t c κs within
 
 pub sharding::ShardingCodec::read_subchunk_into-returns-clause-kept : goal.sharding::ShardingCodec::read_subchunk_into-returns-clause-kept
 sharding::ShardingCodec::read_subchunk_into-returns-clause-kept g t c =
-    let k = kind_of c.args.cell_type.now in
-    let f = filling c.args.cell_type.now in
     let r = read_of c.args.read.now in
     let is = opened c.args.read.now in
-    let m : ChainMeaning = chain_meaning (inner_chain_of c.args.self.now) in
-    let dec = m.decoded k f r.sub in
     let t = c.args.target.now in
     let region = target_box t in
     let i = c.args.indices.now in
-    let n = c.in-Some.number in
     let at = c.in-Some.ensures.number in
     let share = (rw c.in-Some-2.is at c.in_ok-share.ensures.share) i at in
     let shared = box_of c.in-Some-2.share.shared in
-    let piece = box_of c.in-Some-2.share.own in
-    let shape_is : c.subchunk_shape.result.now ≡ r.sub = c.subchunk_shape.ensures in
     let shared_long = c.in-Some-2.share.shared.same_length in
     let own_long = t.region.now.same_length in
     let own = box_of c.in_ok-own.own in
     let own_is : own ≡ moved_box region r.part shared = c.in_ok-own.ensures in
-    let stored = c.subchunk-stored.result in
-    let bytes_are = c.subchunk-stored.ensures.bytes in
     let new = c.read_piece.new.target in
     but_kept t t new own (keeps_itself t) c.read_piece.ensures.kept
     (subst (λ (b : Box). (p : List ℕ) → in_box region p ≡ false → in_box b p ≡ false) (sym own_is) (moved_outside region r.part shared own_long is.long shared_long c.requires.same_shape share.shared_lies))
@@ -190,9 +166,6 @@ sharding::ShardingCodec::read_subchunk_into-returns-clause-refused g t c =
     let r = read_of c.args.read.now in
     let is = opened c.args.read.now in
     let m : ChainMeaning = chain_meaning (inner_chain_of c.args.self.now) in
-    let dec = m.decoded k f r.sub in
-    let t = c.args.target.now in
-    let region = target_box t in
     let i = c.args.indices.now in
     let n = c.in-Some.number in
     let at = c.in-Some.ensures.number in
@@ -200,13 +173,8 @@ sharding::ShardingCodec::read_subchunk_into-returns-clause-refused g t c =
     let shared = box_of c.in-Some-2.share.shared in
     let piece = box_of c.in-Some-2.share.own in
     let shape_is : c.subchunk_shape.result.now ≡ r.sub = c.subchunk_shape.ensures in
-    let shared_long = c.in-Some-2.share.shared.same_length in
-    let own_long = t.region.now.same_length in
-    let own = box_of c.in_ok-own.own in
-    let own_is : own ≡ moved_box region r.part shared = c.in_ok-own.ensures in
     let stored = c.subchunk-stored.result in
     let bytes_are = c.subchunk-stored.ensures.bytes in
-    let new = c.read_piece.new.target in
     IfErr-weaker c.read_piece.result _ _
     (λ e why.
     piece_refused c.args.self.now c.args.cell_type.now r is n at.below stored piece e bytes_are c.subchunk-stored.ensures.refuses (large_share c.args.self.now c.args.cell_type.now r is i n shared piece share)
@@ -248,7 +216,6 @@ sharding::ShardingCodec::read_piece_into-returns-clause-refused g t c =
     let m : ChainMeaning = chain_meaning (inner_chain_of c.args.self.now) in
     let dec = m.decoded k f sub in
     let piece = box_of c.args.piece.now in
-    let t = c.args.target.now in
     IfErr-weaker c.partial_decode_inner_into.result _ _
     (λ e why. subst (λ o. RefusesPiece dec (IsTooLargeToDecode m k f sub piece) o e) (sym c.in-Some.is) why)
     c.partial_decode_inner_into.ensures.refused
@@ -260,8 +227,6 @@ sharding::ShardingCodec::read_piece_into-returns-clause-whole g t c =
     let sub = shape_of c.args.chunk.now in
     let m : ChainMeaning = chain_meaning (inner_chain_of c.args.self.now) in
     let dec = m.decoded k f sub in
-    let piece = box_of c.args.piece.now in
-    let t = c.args.target.now in
     λ all. on_ok_weaker c.partial_decode_inner_into.result
     (λ h. subst (λ o. IfSome o (λ own. IsSome (dec (bytes_of own)))) (sym c.in-Some.is) h)
     (c.partial_decode_inner_into.ensures.whole all)
@@ -338,7 +303,6 @@ sharding::ShardingCodec::read_subchunks_into-returns-then-not-advance-clause-all
     let k = kind_of c.args.cell_type.now in
     let f = filling c.args.cell_type.now in
     let r = read_of c.args.read.now in
-    let is = opened c.args.read.now in
     let m : ChainMeaning = chain_meaning (inner_chain_of c.args.self.now) in
     let dec = m.decoded k f r.sub in
     let t = c.args.target.now in
@@ -361,7 +325,6 @@ sharding::ShardingCodec::read_subchunks_into-loop-walk-preserved g t c =
     let k = kind_of c.args.cell_type.now in
     let f = filling c.args.cell_type.now in
     let r = read_of c.args.read.now in
-    let is = opened c.args.read.now in
     let m : ChainMeaning = chain_meaning (inner_chain_of c.args.self.now) in
     let dec = m.decoded k f r.sub in
     let t = c.args.target.now in
@@ -411,11 +374,8 @@ sharding::ShardingCodec::read_all_into-subchunk-stored-requires g t c =
 pub sharding::ShardingCodec::read_all_into-read_piece-requires : goal.sharding::ShardingCodec::read_all_into-read_piece-requires
 sharding::ShardingCodec::read_all_into-read_piece-requires g t c κs within =
     let k = kind_of c.args.cell_type.now in
-    let f = filling c.args.cell_type.now in
     let r = read_of c.args.read.now in
     let is = opened c.args.read.now in
-    let m : ChainMeaning = chain_meaning (inner_chain_of c.args.self.now) in
-    let dec = m.decoded k f r.sub in
     let t = c.args.target.now in
     let region = target_box t in
     let parent = t.parent_shape.now in
@@ -432,7 +392,6 @@ sharding::ShardingCodec::read_all_into-read_piece-requires g t c κs within =
     let n_lt : n < subchunk_count region.shape r.sub = omega (arith, c.count-number-end.ensures, count_is) in
     let own = box_of c.in_ok-own.own in
     let own_is : own ≡ own_box region r.sub n = c.in_ok-own.ensures in
-    let stored = c.subchunk-stored.result in
     let part_is = origin_box r.part r.shape c.requires.whole is.lies in
     let piece = box_of c.in_ok-piece.piece in
     let piece_is : piece ≡ box_at_origin c.subchunk_shape-shape.result.now = search rules in
@@ -447,12 +406,8 @@ sharding::ShardingCodec::read_all_into-read_piece-requires g t c κs within =
 
 pub sharding::ShardingCodec::read_all_into-returns-in_err-read_piece-clause-kept : goal.sharding::ShardingCodec::read_all_into-returns-in_err-read_piece-clause-kept
 sharding::ShardingCodec::read_all_into-returns-in_err-read_piece-clause-kept g t c =
-    let k = kind_of c.args.cell_type.now in
-    let f = filling c.args.cell_type.now in
     let r = read_of c.args.read.now in
     let is = opened c.args.read.now in
-    let m : ChainMeaning = chain_meaning (inner_chain_of c.args.self.now) in
-    let dec = m.decoded k f r.sub in
     let t = c.args.target.now in
     let region = target_box t in
     let parent = t.parent_shape.now in
@@ -469,11 +424,6 @@ sharding::ShardingCodec::read_all_into-returns-in_err-read_piece-clause-kept g t
     let n_lt : n < subchunk_count region.shape r.sub = omega (arith, c.count-number-end.ensures, count_is) in
     let own = box_of c.in_ok-own.own in
     let own_is : own ≡ own_box region r.sub n = c.in_ok-own.ensures in
-    let stored = c.subchunk-stored.result in
-    let part_is = origin_box r.part r.shape c.requires.whole is.lies in
-    let piece = box_of c.in_ok-piece.piece in
-    let piece_is : piece ≡ box_at_origin c.subchunk_shape-shape.result.now = search rules in
-    let here : piece ≡ box_at_origin r.sub = piece_is ∙ ap box_at_origin shape_is in
     let new = c.read_piece.new.target in
     but_kept t l new own i.kept c.read_piece.ensures.kept
     (subst (λ (b : Box). (p : List ℕ) → in_box region p ≡ false → in_box b p ≡ false) (sym own_is) (own_outside parent region r.sub cut long lies n n_lt))
@@ -485,18 +435,13 @@ sharding::ShardingCodec::read_all_into-returns-in_err-read_piece-clause-refused 
     let r = read_of c.args.read.now in
     let is = opened c.args.read.now in
     let m : ChainMeaning = chain_meaning (inner_chain_of c.args.self.now) in
-    let dec = m.decoded k f r.sub in
     let t = c.args.target.now in
     let region = target_box t in
-    let parent = t.parent_shape.now in
-    let long = t.region.now.same_length in
     let lies = t.whole.inside in
     let s_is : region.shape ≡ r.shape = c.requires.same_shape ∙ c.requires.whole in
     let cut : is_cut_by region.shape r.sub ≡ true = ap (λ (x : List ℕ). is_cut_by x r.sub) s_is ∙ is.cut in
     let count_is : subchunk_count region.shape r.sub ≡ count_of r = ap (λ (x : List ℕ). subchunk_count x r.sub) s_is in
     let shape_is : c.subchunk_shape-shape.result.now ≡ r.sub = c.subchunk_shape-shape.ensures in
-    let l = c.loop-number.target in
-    let i = c.loop-number.invariant in
     let n = c.loop-number.number in
     let r_lt : n < count_of r = omega (arith, c.count-number-end.ensures) in
     let n_lt : n < subchunk_count region.shape r.sub = omega (arith, c.count-number-end.ensures, count_is) in
@@ -507,7 +452,6 @@ sharding::ShardingCodec::read_all_into-returns-in_err-read_piece-clause-refused 
     let piece = box_of c.in_ok-piece.piece in
     let piece_is : piece ≡ box_at_origin c.subchunk_shape-shape.result.now = search rules in
     let here : piece ≡ box_at_origin r.sub = piece_is ∙ ap box_at_origin shape_is in
-    let new = c.read_piece.new.target in
     let e = c.in_err-read_piece.field-0.0 in
     err_kept c.from_residual-in_err-read_piece.result e (RefusesShard c.args.self.now c.args.cell_type.now r) c.from_residual-in_err-read_piece.ensures.1
     (subchunks_refused c.args.self.now c.args.cell_type.now r is e
@@ -595,13 +539,9 @@ sharding::ShardingCodec::read_all_into-returns-clause-cells g t c =
 pub sharding::ShardingCodec::read_all_into-returns-then-not-branch-clause-refused : goal.sharding::ShardingCodec::read_all_into-returns-then-not-branch-clause-refused
 sharding::ShardingCodec::read_all_into-returns-then-not-branch-clause-refused g t c =
     let k = kind_of c.args.cell_type.now in
-    let f = filling c.args.cell_type.now in
     let r = read_of c.args.read.now in
     let is = opened c.args.read.now in
     let m : ChainMeaning = chain_meaning (inner_chain_of c.args.self.now) in
-    let dec = m.decoded k f r.sub in
-    let t = c.args.target.now in
-    let region = target_box t in
     let shape_is : c.subchunk_shape-shape.result.now ≡ r.sub = c.subchunk_shape-shape.ensures in
     sharded_unfit c.args.self.now c.args.cell_type.now r is (ap (m.fits k) (sym shape_is) ∙ sym c.in_ok-fits_chunk.ensures ∙ c.if-not-branch.true)
 
@@ -628,7 +568,6 @@ sharding::ShardingCodec::partial_decode_shard_into-read_all_into-requires g t c 
     let read_is : read_of read ≡ r_of (is_at_start (location_of x)) (sizes_of (subchunk_sizes_of x)) =
     (rw c.in-Some.is at c.in_ok-read.ensures.opened) ∙ ap (λ (at : Bool). r_of at c.deref.result.now) at_is ∙ ap (r_of (is_at_start (location_of x))) sub_is in
     let r = read_of read in
-    let ty = chunk.cell_type.now in
     let t = c.args.target.now in
     let part_whole : (box_of c.args.part.now).shape ≡ shape_of chunk = search rules in
     let whole = subst (λ (r : ShardRead). r.part.shape ≡ r.shape) (sym read_is) part_whole in
@@ -647,7 +586,6 @@ sharding::ShardingCodec::partial_decode_shard_into-read_subchunks_into-requires 
     let read_is : read_of read ≡ r_of (is_at_start (location_of x)) (sizes_of (subchunk_sizes_of x)) =
     (rw c.in-Some.is at c.in_ok-read.ensures.opened) ∙ ap (λ (at : Bool). r_of at c.deref.result.now) at_is ∙ ap (r_of (is_at_start (location_of x))) sub_is in
     let r = read_of read in
-    let ty = chunk.cell_type.now in
     let t = c.args.target.now in
     let same = subst (λ (r : ShardRead). (target_box t).shape ≡ r.part.shape) (sym read_is) c.requires.same_shape in
     (first_of (omega (arith, c.decreases), search rules), (search rules, (c.requires.takes, same)))
@@ -691,7 +629,6 @@ sharding::ShardingCodec::partial_decode_shard_into-returns-then-eq-clause-whole 
     (rw c.in-Some.is at c.in_ok-read.ensures.opened) ∙ ap (λ (at : Bool). r_of at c.deref.result.now) at_is ∙ ap (r_of (is_at_start (location_of x))) sub_is in
     let r = read_of read in
     let ty = chunk.cell_type.now in
-    let t = c.args.target.now in
     λ all. on_ok_weaker c.read_all_into.result
     (λ h. subst (λ (r : ShardRead). IsSome (shard_decoded x ty r)) read_is (subst IsSome (sym h.decoded_is) refl))
     c.read_all_into.ensures.cells
@@ -709,7 +646,6 @@ sharding::ShardingCodec::partial_decode_shard_into-returns-then-eq-clause-refuse
     (rw c.in-Some.is at c.in_ok-read.ensures.opened) ∙ ap (λ (at : Bool). r_of at c.deref.result.now) at_is ∙ ap (r_of (is_at_start (location_of x))) sub_is in
     let r = read_of read in
     let ty = chunk.cell_type.now in
-    let t = c.args.target.now in
     IfErr-weaker c.read_all_into.result _ _ (λ e why. subst (λ (r : ShardRead). RefusesShard x ty r e) read_is why) c.read_all_into.ensures.refused
 
 pub sharding::ShardingCodec::partial_decode_shard_into-returns-clause-cells : goal.sharding::ShardingCodec::partial_decode_shard_into-returns-clause-cells
@@ -745,7 +681,6 @@ sharding::ShardingCodec::partial_decode_shard_into-returns-clause-refused g t c 
     (rw c.in-Some.is at c.in_ok-read.ensures.opened) ∙ ap (λ (at : Bool). r_of at c.deref.result.now) at_is ∙ ap (r_of (is_at_start (location_of x))) sub_is in
     let r = read_of read in
     let ty = chunk.cell_type.now in
-    let t = c.args.target.now in
     IfErr-weaker c.read_subchunks_into.result _ _
     (λ e why. subst (λ (r : ShardRead). RefusesShard x ty r e) read_is (subchunks_refused x ty r (opened read) e why))
     c.read_subchunks_into.ensures.refused
@@ -757,7 +692,6 @@ sharding::ShardingCodec::partial_decode_shard_into-returns-in_default-clause-ref
     let chunk = c.args.chunk.now in
     let at_is : c.is_at_start-at_start.result ≡ is_at_start (location_of x) = c.is_at_start-at_start.ensures ∙ ap is_at_start c.index_location.ensures in
     let sub_is : c.deref.result.now ≡ sizes_of (subchunk_sizes_of x) = c.deref.ensures.value ∙ c.in_ok-sub.ensures in
-    let r_of = λ (at : Bool) (sub : List ℕ). shard_read at (shape_of chunk) sub (box_of c.args.part.now) (bytes_of stored) (refuses_of stored) in
     let none = rw c.in_default.is at c.in_ok-read.ensures.none in
     let at = is_at_start (location_of x) in
     let m : ChainMeaning = chain_meaning (inner_chain_of x) in
@@ -845,7 +779,6 @@ chain::CodecChain::partial_decode_chunk_into-returns-in-Sharding-clause-refused 
     let s = c.args.chunk.now.shape.now in
     let b = bytes_of c.args.stored.now in
     let part = box_of c.args.part.now in
-    let t = c.args.target.now in
     let before = c.args.self.now.array_to_array in
     let last = c.args.self.now.array_to_bytes in
     let none = eqb-true (vec_len before) 0 (sym c.if-not-is_empty.ensures) in

@@ -21,7 +21,6 @@ returns-clause-refused c =
     let d = data_of c.args.bytes.now in
     let codecs = array_to_array_of c.args.self.now in
     let last = array_to_bytes_of c.args.self.now in
-    let codec = c.in-Sharding.codec.value in
     let alone : no_codec codecs ≡ true = (and_parts (no_codec codecs) (codec_meaning last).encodes_partly c.requires.supported).0 in
     IfErr-weaker c.partial_encode_shard.result _ _
     (λ e why.

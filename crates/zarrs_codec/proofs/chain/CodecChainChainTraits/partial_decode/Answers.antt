@@ -17,9 +17,6 @@ partial_decode_chunk-requires-clause-may_read g c =
     let part = box_of c.args.part.now in
     let source = c.args.source.now in
     let new = c.new.result in
-    let bytes_are : bytes_of new ≡ window_bytes c.args.window (g.B.ByteSource.bytes source) =
-    ap (λ s. window_bytes new.window (g.B.ByteSource.bytes s.now)) c.new.ensures.source ∙ ap (λ w. window_bytes w (g.B.ByteSource.bytes source)) c.new.ensures.window in
-    let refuses_is : refuses_of new ≡ g.B.ByteSource.refuses source = ap (λ s. g.B.ByteSource.refuses s.now) c.new.ensures.source in
     let k = chunk_kind chunk in
     let s = shape_of chunk in
     subst (λ w. MayRead (g.B.ByteSource.may_read new.source.now) w (m.places k s part (window_bytes w (g.B.ByteSource.bytes new.source.now)))) (sym c.new.ensures.window)
@@ -34,7 +31,6 @@ returns-clause-cells g c =
     let new = c.new.result in
     let bytes_are : bytes_of new ≡ window_bytes c.args.window (g.B.ByteSource.bytes source) =
     ap (λ s. window_bytes new.window (g.B.ByteSource.bytes s.now)) c.new.ensures.source ∙ ap (λ w. window_bytes w (g.B.ByteSource.bytes source)) c.new.ensures.window in
-    let refuses_is : refuses_of new ≡ g.B.ByteSource.refuses source = ap (λ s. g.B.ByteSource.refuses s.now) c.new.ensures.source in
     subst (λ (b : List ℕ). IfOk c.partial_decode_chunk.result (λ made. HoldsPart m chunk part b (data_of made))) bytes_are c.partial_decode_chunk.ensures.cells
 
 pub returns-clause-refused : goal.returns-clause-refused

@@ -17,9 +17,6 @@ partial_decode_chunk_into-requires-clause-may_read g c =
     let part = box_of c.args.part.now in
     let source = c.args.source.now in
     let new = c.new-stored.result in
-    let bytes_are : bytes_of new ≡ window_bytes c.args.window (g.B.ByteSource.bytes source) =
-    ap (λ s. window_bytes new.window (g.B.ByteSource.bytes s.now)) c.new-stored.ensures.source ∙ ap (λ w. window_bytes w (g.B.ByteSource.bytes source)) c.new-stored.ensures.window in
-    let refuses_is : refuses_of new ≡ g.B.ByteSource.refuses source = ap (λ s. g.B.ByteSource.refuses s.now) c.new-stored.ensures.source in
     let k = chunk_kind chunk in
     let s = shape_of chunk in
     subst (λ w. MayRead (g.B.ByteSource.may_read new.source.now) w (m.places k s part (window_bytes w (g.B.ByteSource.bytes new.source.now)))) (sym c.new-stored.ensures.window)
@@ -34,19 +31,16 @@ returns-clause-cells g c =
     let new = c.new-stored.result in
     let bytes_are : bytes_of new ≡ window_bytes c.args.window (g.B.ByteSource.bytes source) =
     ap (λ s. window_bytes new.window (g.B.ByteSource.bytes s.now)) c.new-stored.ensures.source ∙ ap (λ w. window_bytes w (g.B.ByteSource.bytes source)) c.new-stored.ensures.window in
-    let refuses_is : refuses_of new ≡ g.B.ByteSource.refuses source = ap (λ s. g.B.ByteSource.refuses s.now) c.new-stored.ensures.source in
     subst (λ (b : List ℕ). OnOk c.partial_decode_chunk_into.result (HoldsPartAt m chunk part b c.args.target.now c.partial_decode_chunk_into.new.target)) bytes_are c.partial_decode_chunk_into.ensures.cells
 
 pub returns-clause-whole : goal.returns-clause-whole
 returns-clause-whole g c = λ all.
     let m : ChainMeaning = chain_meaning c.args.self.now in
     let chunk = c.args.chunk.now in
-    let part = box_of c.args.part.now in
     let source = c.args.source.now in
     let new = c.new-stored.result in
     let bytes_are : bytes_of new ≡ window_bytes c.args.window (g.B.ByteSource.bytes source) =
     ap (λ s. window_bytes new.window (g.B.ByteSource.bytes s.now)) c.new-stored.ensures.source ∙ ap (λ w. window_bytes w (g.B.ByteSource.bytes source)) c.new-stored.ensures.window in
-    let refuses_is : refuses_of new ≡ g.B.ByteSource.refuses source = ap (λ s. g.B.ByteSource.refuses s.now) c.new-stored.ensures.source in
     subst (λ (b : List ℕ). OnOk c.partial_decode_chunk_into.result (IsSome (decoded_of m chunk b))) bytes_are (c.partial_decode_chunk_into.ensures.whole all)
 
 pub returns-clause-refused : goal.returns-clause-refused
