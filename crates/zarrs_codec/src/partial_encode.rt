@@ -162,9 +162,11 @@ impl ShardingCodec {
             update.now) }
     {
         for (number, range) in update.ranges.iter().enumerate() {
-            if update.subchunks.unmet(update.part, number as u64) == 0 {
-                self.test_part(alloc, update, *range)?;
+            let run = update.subchunks.unmet(update.part, number as u64);
+            if run > 0 {
+                continue;
             }
+            self.test_part(alloc, update, *range)?;
         }
         Ok(())
     }

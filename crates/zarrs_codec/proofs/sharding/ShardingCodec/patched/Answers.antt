@@ -43,7 +43,7 @@ loop-number-preserved-then-run-gt0 c =
     let kept = take run (drop n ranges) in
     let slice : slice_range ranges n (n + run) ≡ kept = ap (λ i. take i (drop n ranges)) (let width : n + run - n ≡ run = omega arith in width) in
     let any_is : c.has_present-any.result ≡ not (all_absent (take run (drop n (parts_in u)))) =
-    c.has_present-any.ensures ∙ ap (list_any is_some) slice ∙ any_present b kept
+    c.has_present-any.ensures ∙ ap (λ l. list_any is_some (slice_range l n (n + run))) c.deref.ensures.value ∙ ap (list_any is_some) slice ∙ any_present b kept
     ∙ ap (λ l. not (all_absent l)) (sym (ap (take run) (drop-map (range_part b) n ranges) ∙ take-map (range_part b) run (drop n ranges))) in
     record {
       within = le;
