@@ -2,7 +2,7 @@ use Rattle.zarrs_data_type.specs.CellTypes.{filling, kind_of}
 use Rattle.std.proofs.Common.{rules, arith, ◌≡◌, ◌+◌, ◌-◌, ◌<◌, ◌≤◌, [], ℕ, None, Some, not, is_some, get_or, length, map, take, drop, option_map, refl, sym, ap, subst, ◌∙◌}
 use Rattle.std.specs.List.{list_any}
 use Rattle.std.specs.Prelude.{slice_range}
-use Rattle.std.proofs.lemmas.List.{drop-map, take-map}
+use Rattle.std.proofs.lemmas.List.{drop-map, get_or_default, length-map, take-map}
 use Rattle.zarrs_data_type.specs.ArrayData.{data_of}
 use Rattle.zarrs_subset.specs.Regions.{box_of}
 use Rattle.zarrs_codec_shard.specs.PartialShards.{all_absent}
@@ -12,9 +12,10 @@ use Rattle.zarrs_codec_shard.specs.SubchunkData.{chunk_shape, subchunk_shape}
 use Rattle.zarrs_codec_chain.specs.Options.{stores_empty_chunks}
 use Rattle.zarrs_codec.specs.Chains.{chain_meaning, inner_chain_of}
 use Rattle.zarrs_codec.specs.PartialShardings.{HasFirstChanges}
-use Rattle.zarrs_codec.specs.ShardUpdates.{bytes_in, change_in, parts_in, stored_in}
+use Rattle.zarrs_codec.specs.ShardUpdates.{RefusesChangeOf, RefusesChangesOf, bytes_in, change_in, parts_in, stored_in}
+use Rattle.zarrs_codec_optional.proofs.Kept.{err_kept}
 use Rattle.zarrs_codec.proofs.PartCells.{part_at}
-use Rattle.zarrs_codec.proofs.Patches.{any_present, changes_kept, changes_more, changes_started, has_room, write_is}
+use Rattle.zarrs_codec.proofs.Patches.{any_present, change_refused, changes_kept, changes_more, changes_started, has_room, write_is}
 use Rattle.zarrs_codec.proofs.sharding.ShardingCodec.patched.Goals as goal
 
 pub loop-number-init : goal.loop-number-init
@@ -56,19 +57,45 @@ changed-requires-clause-met c = c.unmet-run.ensures.met (omega (arith, c.if-run-
 pub loop-number-preserved : goal.loop-number-preserved
 loop-number-preserved c =
     let u = c.args.update.now in
-    let b = bytes_in u in
-    let n = c.loop-number.number in
     let ranges = u.ranges.items in
+    let n = c.loop-number.number in
+    let range = c.index-range.result in
     let below : n < length ranges = omega (arith, c.loop-number-test.true, c.len-count.ensures) in
-    let range = get_or ranges n None in
-    let part = option_map (λ bytes. bytes.items) c.in_ok-part.part in
-    let made : change_in (chain_meaning (inner_chain_of c.args.self.now)) u n (range_part b range) ≡ Some (Some part) = search rules in
-    let here : change_in (chain_meaning (inner_chain_of c.args.self.now)) u n (get_or (parts_in u) n None) ≡ Some (Some part) =
-    ap (change_in (chain_meaning (inner_chain_of c.args.self.now)) u n) (part_at b ranges n range below refl) ∙ made in
+    let at : get_or ranges n None ≡ range = sym (c.index-range.is ∙ get_or_default ranges n range None below) in
+    let here = ap (change_in (chain_meaning (inner_chain_of c.args.self.now)) u n) (part_at (bytes_in u) ranges n range below at) ∙ c.in_ok-part.ensures.change in
     record {
       within = omega arith;
-      changes = changes_more _ _ _ _ _ _ _ _ _ _ (length ranges) n c.loop-number.patch c.push.new.self part c.requires.update.ranges.parts below here c.loop-number.invariant.changes c.in_ok-push.ensures.pushed;
+      changes = changes_more _ _ _ _ _ _ _ _ _ _ (length ranges) n c.loop-number.patch c.push.new.self (option_map (λ bytes. bytes.items) c.in_ok-part.part) c.requires.update.ranges.parts below here c.loop-number.invariant.changes c.in_ok-push.ensures.pushed;
     }
+
+pub loop-number-preserved-in_ok-push : goal.loop-number-preserved-in_ok-push
+loop-number-preserved-in_ok-push c =
+    let u = c.args.update.now in
+    let ranges = u.ranges.items in
+    let n = c.loop-number.number in
+    let range = c.index-range.result in
+    let below : n < length ranges = omega (arith, c.loop-number-test.true, c.len-count.ensures) in
+    let at : get_or ranges n None ≡ range = sym (c.index-range.is ∙ get_or_default ranges n range None below) in
+    let here = ap (change_in (chain_meaning (inner_chain_of c.args.self.now)) u n) (part_at (bytes_in u) ranges n range below at) ∙ c.in_ok-part.ensures.change in
+    record {
+      within = omega arith;
+      changes = changes_more _ _ _ _ _ _ _ _ _ _ (length ranges) n c.loop-number.patch c.push.new.self (option_map (λ bytes. bytes.items) c.in_ok-part.part) c.requires.update.ranges.parts below here c.loop-number.invariant.changes c.in_ok-push.ensures.pushed;
+    }
+
+pub returns-in_err-part-clause-refused : goal.returns-in_err-part-clause-refused
+returns-in_err-part-clause-refused c =
+    let u = c.args.update.now in
+    let m = chain_meaning (inner_chain_of c.args.self.now) in
+    let ranges = u.ranges.items in
+    let n = c.loop-number.number in
+    let range = c.index-range.result in
+    let below : n < length ranges = omega (arith, c.loop-number-test.true, c.len-count.ensures) in
+    let at : get_or ranges n None ≡ range = sym (c.index-range.is ∙ get_or_default ranges n range None below) in
+    let e = c.in_err-part.field-0.0 in
+    err_kept c.from_residual-in_err-part.result e (RefusesChangesOf m u) c.from_residual-in_err-part.ensures.1
+    (change_refused m (stores_empty_chunks u.options.now) (kind_of u.cell_type.now) (filling u.cell_type.now) (chunk_shape u.subchunks) (subchunk_shape u.subchunks) (box_of u.part.now) (data_of u.bytes.now) (stored_in u) (parts_in u) n e
+    (omega (arith, length-map ranges (range_part (bytes_in u))))
+    (subst (λ o. RefusesChangeOf m u n o e) (sym (part_at (bytes_in u) ranges n range below at)) c.in_err-part.ensures.refused))
 
 pub returns-clause-written : goal.returns-clause-written
 returns-clause-written c =
