@@ -59,9 +59,9 @@ loop-number-preserved c =
     let u = c.args.update.now in
     let ranges = u.ranges.items in
     let n = c.loop-number.number in
-    let range = c.index-range.result in
+    let range = c.index-range.result.now in
     let below : n < length ranges = omega (arith, c.loop-number-test.true, c.len-count.ensures) in
-    let at : get_or ranges n None ≡ range = sym (c.index-range.is ∙ get_or_default ranges n range None below) in
+    let at : get_or ranges n None ≡ range = sym (c.index-range.ensures ∙ get_or_default ranges n range None below) in
     let here = ap (change_in (chain_meaning (inner_chain_of c.args.self.now)) u n) (part_at (bytes_in u) ranges n range below at) ∙ c.in_ok-part.ensures.change in
     record {
       within = omega arith;
@@ -73,9 +73,9 @@ loop-number-preserved-in_ok-push c =
     let u = c.args.update.now in
     let ranges = u.ranges.items in
     let n = c.loop-number.number in
-    let range = c.index-range.result in
+    let range = c.index-range.result.now in
     let below : n < length ranges = omega (arith, c.loop-number-test.true, c.len-count.ensures) in
-    let at : get_or ranges n None ≡ range = sym (c.index-range.is ∙ get_or_default ranges n range None below) in
+    let at : get_or ranges n None ≡ range = sym (c.index-range.ensures ∙ get_or_default ranges n range None below) in
     let here = ap (change_in (chain_meaning (inner_chain_of c.args.self.now)) u n) (part_at (bytes_in u) ranges n range below at) ∙ c.in_ok-part.ensures.change in
     record {
       within = omega arith;
@@ -88,9 +88,9 @@ returns-in_err-part-clause-refused c =
     let m = chain_meaning (inner_chain_of c.args.self.now) in
     let ranges = u.ranges.items in
     let n = c.loop-number.number in
-    let range = c.index-range.result in
+    let range = c.index-range.result.now in
     let below : n < length ranges = omega (arith, c.loop-number-test.true, c.len-count.ensures) in
-    let at : get_or ranges n None ≡ range = sym (c.index-range.is ∙ get_or_default ranges n range None below) in
+    let at : get_or ranges n None ≡ range = sym (c.index-range.ensures ∙ get_or_default ranges n range None below) in
     let e = c.in_err-part.field-0.0 in
     err_kept c.from_residual-in_err-part.result e (RefusesChangesOf m u) c.from_residual-in_err-part.ensures.1
     (change_refused m (stores_empty_chunks u.options.now) (kind_of u.cell_type.now) (filling u.cell_type.now) (chunk_shape u.subchunks) (subchunk_shape u.subchunks) (box_of u.part.now) (data_of u.bytes.now) (stored_in u) (parts_in u) n e
