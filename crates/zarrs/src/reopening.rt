@@ -48,7 +48,7 @@ fn path_and_version<S>(
 /// Stores the metadata of the array, and returns the store.
 fn stored<S: WritableStorageTraits + Drop>(
     alloc: Global,
-    array: Array<S>,
+    mut array: Array<S>,
 ) -> Result<S, ArrayCreateError>
     ensures stored { IfOk result (λ storage. StoresMetadata (metadata_options_of_array array)
         (path_of_array array) (metadata_of_array array) (store_of_array S.state array)
@@ -57,7 +57,6 @@ fn stored<S: WritableStorageTraits + Drop>(
         (metadata_options_of_array array) (path_of_array array) (metadata_of_array array)
         (create_refusal_of e) (store_of_array S.state array)) }
 {
-    let mut array = array;
     array.store_metadata(alloc)?;
     Ok(array.into_storage())
 }

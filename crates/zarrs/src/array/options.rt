@@ -18,12 +18,11 @@ impl<TStorage> Array<TStorage> {
     }
 
     /// Returns the array with these options of its codecs.
-    pub fn with_codec_options(self, codec_options: CodecOptions) -> Array<TStorage>
+    pub fn with_codec_options(mut self, codec_options: CodecOptions) -> Array<TStorage>
         ensures { HasCodecOptions codec_options self result }
     {
-        let mut array = self;
-        array.codec_options = codec_options;
-        array
+        self.codec_options = codec_options;
+        self
     }
 
     /// Sets the options of its codecs.
@@ -44,14 +43,13 @@ impl<TStorage> Array<TStorage> {
 
     /// Returns the array with these options of single codecs.
     pub fn with_codec_specific_options(
-        self,
+        mut self,
         codec_specific_options: &CodecSpecificOptions,
     ) -> Array<TStorage>
         ensures { HasCodecSpecificOptions codec_specific_options.now self result }
     {
-        let mut array = self;
-        array.codec_specific_options = *codec_specific_options;
-        array
+        self.codec_specific_options = *codec_specific_options;
+        self
     }
 
     /// Sets the options of single codecs.
@@ -74,12 +72,14 @@ impl<TStorage> Array<TStorage> {
     }
 
     /// Returns the array with these options of its metadata.
-    pub fn with_metadata_options(self, metadata_options: ArrayMetadataOptions) -> Array<TStorage>
+    pub fn with_metadata_options(
+        mut self,
+        metadata_options: ArrayMetadataOptions,
+    ) -> Array<TStorage>
         ensures { HasMetadataOptions (options_view metadata_options) self result }
     {
-        let mut array = self;
-        array.metadata_options = metadata_options;
-        array
+        self.metadata_options = metadata_options;
+        self
     }
 
     /// Sets the options of its metadata.

@@ -61,12 +61,12 @@ impl<TStorage> Array<TStorage> {
 }
 
 impl<TStorage: WritableStorageTraits> Array<TStorage> {
-    ghost use Rattle.std.specs.Prelude.{◌≡◌, ◌&&◌, true, None};
+    ghost use Rattle.std.specs.Prelude.{◌≡◌, true, None};
     ghost use Rattle.zarrs_codec.specs.Options.{stores_empty_chunks};
     ghost use Rattle.zarrs_chunk_grid.specs.Grids.{has_box};
     ghost use Rattle.zarrs_engine_calls.specs.ArgumentRefusals.{part_refusal};
     ghost use Rattle.zarrs_data_type.specs.ArrayData.{data_of};
-    ghost use Rattle.zarrs.specs.Arrays.{layout_of_array, store_of_array};
+    ghost use Rattle.zarrs.specs.Arrays.{layout_of_array};
     ghost use Rattle.zarrs.specs.Outcomes.{EncodesPartOrRefuses, ErasesEncodedOrRefuses};
     ghost use Rattle.zarrs.specs.Outcomes.{MayRetrieveChunk};
 
@@ -106,14 +106,6 @@ impl<TStorage: WritableStorageTraits> Array<TStorage> {
     {
         self.engine.erase_chunk(alloc, chunk_indices)?;
         Ok(())
-    }
-
-    /// Returns whether the parts of chunks are written by themselves: the chain and the store can.
-    fn encodes_partly(&self) -> bool
-        ensures { result ≡ ((layout_of_array self.now).chain.encodes_partly
-            && (store_of_array TStorage.state self.now).sets_parts) }
-    {
-        self.engine.layout().encodes_partly() && self.engine.storage().supports_set_partial()
     }
 }
 
@@ -177,7 +169,8 @@ impl<TStorage: WritableStorageTraits> ArrayPartialEncoder<'_, TStorage> {
         ensures { result ≡ ((layout_of_array (array_of_encoder self.now)).chain.encodes_partly
             && (store_of_array TStorage.state (array_of_encoder self.now)).sets_parts) }
     {
-        self.array.encodes_partly()
+        self.array.engine.layout().encodes_partly()
+            && self.array.engine.storage().supports_set_partial()
     }
 }
 

@@ -39,23 +39,16 @@ impl<TStorage: Drop> Array<TStorage> {
     ///
     /// # Errors
     /// `OutOfMemory` alone: the metadata of an array has a V3 document. The store is dropped then.
-    pub fn to_v3(self, alloc: Global) -> Result<Array<TStorage>, ArrayMetadataV2ToV3Error>
+    pub fn to_v3(mut self, alloc: Global) -> Result<Array<TStorage>, ArrayMetadataV2ToV3Error>
         ensures metadata { IfOk result
             (λ a. as_v3 (metadata_of_array self) ≡ Ok (metadata_of_array a)) }
         ensures kept { IfOk result (KeepsAllButMetadata self) }
         ensures accepted { IsOkUnless result ArrayMetadataV2ToV3Error.OutOfMemory }
     {
-        let metadata = self.metadata;
-        let document = match metadata {
-            ArrayMetadata::V3(document) => document,
-            ArrayMetadata::V2(document) => array_metadata_v2_to_v3(alloc, &document)?,
-        };
-        Ok(Array {
-            engine: self.engine,
-            metadata: ArrayMetadata::V3(document),
-            codec_options: self.codec_options,
-            codec_specific_options: self.codec_specific_options,
-            metadata_options: self.metadata_options,
-        })
+        if let ArrayMetadata::V2(document) = &self.metadata {
+            let upgraded = array_metadata_v2_to_v3(alloc, document)?;
+            self.metadata = ArrayMetadata::V3(upgraded);
+        }
+        Ok(self)
     }
 }

@@ -27,51 +27,13 @@ impl<TStorage> Array<TStorage> {
     ghost use Rattle.zarrs_subset.specs.Regions.{box_of};
     ghost use Rattle.zarrs.specs.Arrays.{layout_of_array};
     ghost use Rattle.zarrs.specs.Queries.{Tests};
-    ghost use Rattle.zarrs.specs.Typed.{place_refusal, chunk_part_refusal};
+    ghost use Rattle.zarrs.specs.Typed.{chunk_part_refusal, place_refusal};
 
     /// Tests whether a part lies in the chunk with these indices.
     ///
     /// # Errors
     /// In this order: E10 for another number of indices than dimensions; E3 for indices without a chunk; E2 for a part
     /// of another number of dimensions, or that passes the chunk. E9 may come at any time.
-    fn check_part(
-        &self,
-        alloc: Global,
-        chunk_indices: &[u64],
-        part: &ArraySubset,
-    ) -> Result<(), ArrayError>
-        ensures { Tests
-            (place_refusal (layout_of_array self.now) chunk_indices.now (box_of part.now)) result }
-    {
-        let dimensions = self.dimensionality();
-        if chunk_indices.len() != dimensions {
-            let error = IncompatibleDimensionalityError::new(chunk_indices.len(), dimensions);
-            return Err(error.into());
-        }
-        self.check_part_of_chunk(alloc, chunk_indices, part)
-    }
-
-    /// Does the rest of what `check_part` does, once the number of indices was tested.
-    ///
-    /// # Errors
-    /// In this order: E3, then E2, as `check_part`. E9 may come at any time.
-    fn check_part_of_chunk(
-        &self,
-        alloc: Global,
-        chunk_indices: &[u64],
-        part: &ArraySubset,
-    ) -> Result<(), ArrayError>
-        ensures { Tests
-            (chunk_part_refusal (layout_of_array self.now) chunk_indices.now (box_of part.now))
-            result }
-    {
-        let layout = self.engine.layout();
-        let chunk = layout.chunk_box(alloc, chunk_indices)?;
-        let _ = layout.part_of(alloc, chunk_indices, &chunk, part)?;
-        Ok(())
-    }
-
-    /// Does what `check_part` does, for whatever stands for the part.
     fn check_place<R: ArraySubsetTraits>(
         &self,
         alloc: Global,
@@ -82,8 +44,32 @@ impl<TStorage> Array<TStorage> {
             (place_refusal (layout_of_array self.now) chunk_indices.now (R.region chunk_subset.now))
             result }
     {
+        let dimensions = self.dimensionality();
+        if chunk_indices.len() != dimensions {
+            let error = IncompatibleDimensionalityError::new(chunk_indices.len(), dimensions);
+            return Err(error.into());
+        }
         let part = chunk_subset.to_array_subset(alloc)?;
         self.check_part(alloc, chunk_indices, &part)
+    }
+
+    /// Does the rest of what `check_place` does, once the number of indices was tested.
+    ///
+    /// # Errors
+    /// In this order: E3, then E2, as `check_place`. E9 may come at any time.
+    fn check_part(
+        &self,
+        alloc: Global,
+        chunk_indices: &[u64],
+        part: &ArraySubset,
+    ) -> Result<(), ArrayError>
+        ensures { Tests
+            (chunk_part_refusal (layout_of_array self.now) chunk_indices.now (box_of part.now))
+            result }
+    {
+        let layout = self.engine.layout();
+        let extents = layout.chunk_shape(alloc, chunk_indices)?;
+        layout.check_part(alloc, chunk_indices, extents.as_slice(), part)
     }
 }
 
@@ -190,16 +176,14 @@ impl<TStorage: WritableStorageTraits> Array<TStorage> {
         ensures { StoresChunksOrRefuses D.serves (D.gives chunks_data) TStorage.state
             (stores_empty_chunks options.now) (R.region chunks.now) self.old self.new result }
     {
-        let chunks_data = match chunks_data.into_array_bytes(alloc, self.engine.data_type()) {
-            Ok(chunks_data) => chunks_data,
+        let range = chunks.to_array_subset(alloc)?;
+        match chunks_data.into_array_bytes(alloc, self.engine.data_type()) {
+            Ok(data) => self.engine.store_chunks(alloc, &range, &data, options),
             Err(error) => {
                 check_number(chunks)?;
-                return Err(error.into());
+                Err(error.into())
             }
-        };
-        let chunks = chunks.to_array_subset(alloc)?;
-        self.engine
-            .store_chunks(alloc, &chunks, &chunks_data, options)
+        }
     }
 
     /// Stores the cells over a part of the chunk with these indices, by one writing call of the store. The part is seen
@@ -253,24 +237,16 @@ impl<TStorage: WritableStorageTraits> Array<TStorage> {
         ensures { StoresPartAs D.serves (D.gives chunk_subset_data) TStorage.state options.now
             chunk_indices.now (R.region chunk_subset.now) self.old self.new result }
     {
-        let chunk_subset_data = match chunk_subset_data.into_array_bytes(
-            alloc,
-            self.engine.data_type(),
-        ) {
-            Ok(chunk_subset_data) => chunk_subset_data,
+        let part = chunk_subset.to_array_subset(alloc)?;
+        match chunk_subset_data.into_array_bytes(alloc, self.engine.data_type()) {
+            Ok(data) => self
+                .engine
+                .store_chunk_subset(alloc, chunk_indices, &part, &data, options),
             Err(error) => {
                 self.check_place(alloc, chunk_indices, chunk_subset)?;
-                return Err(error.into());
+                Err(error.into())
             }
-        };
-        let chunk_subset = chunk_subset.to_array_subset(alloc)?;
-        self.engine.store_chunk_subset(
-            alloc,
-            chunk_indices,
-            &chunk_subset,
-            &chunk_subset_data,
-            options,
-        )
+        }
     }
 
     /// Stores the cells, in row-major order, over the region, one chunk after another in row-major order, each by one
@@ -315,15 +291,15 @@ impl<TStorage: WritableStorageTraits> Array<TStorage> {
         ensures { StoresRegionAs D.serves (D.gives subset_data) TStorage.state options.now
             (R.region array_subset.now) self.old self.new result }
     {
-        let subset_data = match subset_data.into_array_bytes(alloc, self.engine.data_type()) {
-            Ok(subset_data) => subset_data,
+        let region = array_subset.to_array_subset(alloc)?;
+        match subset_data.into_array_bytes(alloc, self.engine.data_type()) {
+            Ok(data) => self
+                .engine
+                .store_array_subset(alloc, &region, &data, options),
             Err(error) => {
                 self.check_region(alloc, array_subset)?;
-                return Err(error.into());
+                Err(error.into())
             }
-        };
-        let array_subset = array_subset.to_array_subset(alloc)?;
-        self.engine
-            .store_array_subset(alloc, &array_subset, &subset_data, options)
+        }
     }
 }

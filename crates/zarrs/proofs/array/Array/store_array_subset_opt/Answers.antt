@@ -12,8 +12,8 @@ use Rattle.zarrs.specs.Outcomes.{MayStoreRegion, SaysNothing}
 use Rattle.zarrs.proofs.Typed.{written_as}
 use Rattle.zarrs.proofs.array.Array.store_array_subset_opt.Goals as goal
 
-pub returns : goal.returns
-returns g c =
+pub returns-in-Ok : goal.returns-in-Ok
+returns-in-Ok g c =
     let layout = layout_of_array c.args.self.now in
     let keep = stores_empty_chunks c.args.options.now in
     let asked = encodes_partially c.args.options.now in
@@ -21,7 +21,7 @@ returns g c =
     let new = g.TStorage.ReadableStorageTraits.state c.store_array_subset.new.self.storage in
     let region = g.R.ArraySubsetTraits.region c.args.array_subset.now in
     let shape = (state_of_array (g.TStorage.ReadableStorageTraits.state) c.args.self.now).shape in
-    let held = data_of c.in-Ok.subset_data in
+    let held = data_of c.in-Ok.data in
     let serves = g.D.IntoArrayBytes.serves in
     let gives = g.D.IntoArrayBytes.gives c.args.subset_data in
     let given = rw c.data_type.ensures at c.in-Ok.ensures.given in
@@ -29,18 +29,18 @@ returns g c =
     record {
       whole = λ off. (
           let stored = c.store_array_subset.ensures.whole off in
-          let done = subst (λ (b : Box). OnOk c.store_array_subset.result (StoresRegion layout keep shape b held old new)) c.in_ok-array_subset.ensures stored.done in
-          let refused = subst (λ (b : Box). IfErr c.store_array_subset.result (λ e. RefusesStoreRegion layout keep shape b held (refusal_of e) old new)) c.in_ok-array_subset.ensures stored.refused in
+          let done = subst (λ (b : Box). OnOk c.store_array_subset.result (StoresRegion layout keep shape b held old new)) c.in_ok-region.ensures stored.done in
+          let refused = subst (λ (b : Box). IfErr c.store_array_subset.result (λ e. RefusesStoreRegion layout keep shape b held (refusal_of e) old new)) c.in_ok-region.ensures stored.refused in
           written_as serves gives (region_refusal layout shape region) g.TStorage.ReadableStorageTraits.state (λ d. StoresRegion layout keep shape region d) (λ d. RefusesStoreRegion layout keep shape region d) (KeepsCanon layout keep) c.args.self.now _ c.store_array_subset.result held given served done refused stored.canonical
           (record { layout_kept = stored.layout_kept; metadata = refl; codec_options = refl; codec_specific_options = refl; metadata_options = refl }));
       partly = (
           let stored = c.store_array_subset.ensures.partly in
-          let done = subst (λ (b : Box). OnOk c.store_array_subset.result (PatchesRegion layout keep asked shape b held old new)) c.in_ok-array_subset.ensures stored.done in
-          let refused = subst (λ (b : Box). IfErr c.store_array_subset.result (λ e. RefusesPatchRegion layout keep asked shape b held (refusal_of e) old new)) c.in_ok-array_subset.ensures stored.refused in
+          let done = subst (λ (b : Box). OnOk c.store_array_subset.result (PatchesRegion layout keep asked shape b held old new)) c.in_ok-region.ensures stored.done in
+          let refused = subst (λ (b : Box). IfErr c.store_array_subset.result (λ e. RefusesPatchRegion layout keep asked shape b held (refusal_of e) old new)) c.in_ok-region.ensures stored.refused in
           written_as serves gives (region_refusal layout shape region) g.TStorage.ReadableStorageTraits.state (λ d. PatchesRegion layout keep asked shape region d) (λ d. RefusesPatchRegion layout keep asked shape region d) SaysNothing c.args.self.now _ c.store_array_subset.result held given served done refused tt
           (record { layout_kept = stored.layout_kept; metadata = refl; codec_options = refl; codec_specific_options = refl; metadata_options = refl }));
     }
 
 pub store_array_subset-requires : goal.store_array_subset-requires
 store_array_subset-requires g c =
-    subst (λ (b : Box). MayStoreRegion g.TStorage.ReadableStorageTraits.state b c.args.self.now) (sym c.in_ok-array_subset.ensures) c.requires
+    subst (λ (b : Box). MayStoreRegion g.TStorage.ReadableStorageTraits.state b c.args.self.now) (sym c.in_ok-region.ensures) c.requires
