@@ -16,7 +16,7 @@ use Rattle.zarr_arrays.specs.Storing.{StoresOver, StoresCells}
 
 -- what is said of a good result
 pub ok_fact : {T E : Type 0} (P : Type 0) (result : Result T E) (value : T) → result ≡ Ok value → OnOk result P → P
-ok_fact P result value is holds = subst (λ (r : Result T E). OnOk r P) is holds
+ok_fact {T = T} {E = E} P result value is holds = subst (λ (r : Result T E). OnOk r P) is holds
 
 never : (asked can : Bool) → (asked && (can && false)) ≡ false
 never false can = refl
@@ -51,3 +51,10 @@ module _ {R : Type 0} (layout : Layout) where
   pub stores_cells : (region : Box) (held : ArrayData) (old read new : DirectoryStore R) → directory_of read ≡ directory_of old → StoresOver layout region held read new
       → StoresCells layout region held old new
   stores_cells region held old read new same stores = record { read = read; same = same; stores = stores }
+
+-- what was stored through an array of this layout, over the store that was lent
+pub stored_there : {R : Type 0} (layout other : Layout) (region : Box) (held : ArrayData) (from to old new : DirectoryStore R) → other ≡ layout → from ≡ old → to ≡ new
+    → StoresOver other region held from to → StoresOver layout region held old new
+stored_there {R = R} layout other region held from to old new same before after stores =
+    subst (λ (s : DirectoryStore R). StoresOver layout region held old s) after
+    (subst (λ (s : DirectoryStore R). StoresOver layout region held s to) before (subst (λ (l : Layout). StoresOver l region held from to) same stores))

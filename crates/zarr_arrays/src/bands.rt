@@ -16,6 +16,9 @@ use zarrs::{Array, ArraySubset, ArraySubsetTraits};
 /// The bytes of cells that a band is to have.
 const WANTED: u64 = 16 * 1024 * 1024;
 
+/// The bytes of cells of a band that ends inside of chunks, whose values are held beside it.
+const CUTTING: u64 = 32 * 1024 * 1024;
+
 /// The most bytes of cells of a band that has more than one cell.
 const MOST: u64 = 64 * 1024 * 1024;
 
@@ -46,14 +49,14 @@ fn row_bytes(array: &Array<()>, region: &ArraySubset, axis: usize) -> u64
     bytes.max(1)
 }
 
-/// Returns rows up to the end of a chunk, and those of further chunks as long as there are no more than wanted. If there
-/// may not be as many, returns as many as there may be.
-fn rows_up_to(to_end: u64, height: u64, wanted: u64, most: u64) -> u64
-    requires { 1 ≤ most }
+/// Returns rows up to the end of a chunk, and those of further chunks as long as there are no more than wanted. If the end is
+/// too far, returns as many rows as a band has that ends before it.
+fn rows_up_to(to_end: u64, height: u64, wanted: u64, cutting: u64, most: u64) -> u64
+    requires { 1 ≤ cutting }
     ensures { 1 ≤ result }
 {
     if to_end == 0 || to_end > most {
-        return most;
+        return cutting;
     }
     if height == 0 {
         return to_end;
@@ -90,14 +93,14 @@ fn first_rows(
     ensures { IfOk result (λ rows. 1 ≤ rows) }
 {
     let row = row_bytes(array, region, axis);
-    let (wanted, most) = (WANTED / row, (MOST / row).max(1));
+    let (wanted, cutting, most) = (WANTED / row, (CUTTING / row).max(1), MOST / row);
     let first = region.start()[axis];
     let top = with_rows(alloc, region, axis, first, 1)?;
     let Some((start, height)) = chunk_rows(alloc, array, &top, axis)? else {
-        return Ok(most);
+        return Ok(cutting);
     };
     let to_end = start.saturating_add(height).saturating_sub(first);
-    Ok(rows_up_to(to_end, height, wanted, most))
+    Ok(rows_up_to(to_end, height, wanted, cutting, most))
 }
 
 /// Returns whether the region has at most so many cells, or one.

@@ -99,9 +99,9 @@ pub(crate) fn store_cells(
         (data_of cells.entry) store.old store.new) }
 {
     let mut array = writing(array, alloc, store)?;
-    let outcome = store_through(&mut array, alloc, region, cells, options);
+    store_through(&mut array, alloc, region, cells, options)?;
     let _store = array.into_storage().into_inner();
-    outcome
+    Ok(())
 }
 
 /// Compacts the chunk with these indices, which was read. Returns whether it was not compact.

@@ -1,8 +1,10 @@
 //! Arrays in directories: opened, and their calls.
-ghost use Rattle.std.specs.Prelude.{◌≡◌, IfOk, OnOk};
+ghost use Rattle.std.specs.Prelude.{◌≡◌, IfOk, IfSome, IsErr, OnOk};
 ghost use Rattle.zarrs_data_type.specs.ArrayData.{data_of};
-ghost use Rattle.zarrs_subset.specs.Regions.{box_of};
-ghost use Rattle.zarrs.specs.Arrays.{layout_of_array};
+ghost use Rattle.zarrs_subset.specs.Regions.{LiesInShape, box_at_origin, box_of};
+ghost use Rattle.zarrs_codec.specs.Options.{stores_empty_chunks};
+ghost use Rattle.zarrs_creation.specs.Meanings.{shape_said};
+ghost use Rattle.zarrs.specs.Arrays.{layout_of_array, metadata_of_array};
 ghost use Rattle.zarrs_directory.specs.Directory.{directory_of};
 ghost use Rattle.zarr_cells.specs.Forms.{rows_of};
 ghost use Rattle.zarrs_engine_calls.specs.ChunkBoxes.{chunks_met};
@@ -116,7 +118,9 @@ impl<'r> Opened<'r> {
     pub fn close(self) {}
 
     /// Returns the options of writing calls: without a fill value a chunk of zeros is stored like any other.
-    pub fn options(&self) -> CodecOptions {
+    pub fn options(&self) -> CodecOptions
+        ensures { stores_empty_chunks result ≡ self.now.lens.has_no_fill }
+    {
         CodecOptions::default().with_store_empty_chunks(self.lens.has_no_fill)
     }
 
@@ -148,11 +152,14 @@ impl<'r> Opened<'r> {
     ///
     /// # Errors
     /// E1 for another number of dimensions, or an end past the shape.
-    pub fn region(
-        &self,
-        alloc: Global,
-        region: Option<ArraySubset>,
-    ) -> Result<ArraySubset, Refusal> {
+    pub fn region(&self, alloc: Global, region: Option<ArraySubset>) -> Result<ArraySubset, Refusal>
+        ensures inside { IfSome region (λ given. LiesInShape (box_of given)
+            (shape_said (metadata_of_array self.now.array)) → result ≡ Ok given) }
+        ensures outside { IfSome region (λ given. (LiesInShape (box_of given)
+            (shape_said (metadata_of_array self.now.array)) → ⊥) → IsErr result) }
+        ensures all { region ≡ None → IfOk result (λ all. box_of all
+            ≡ box_at_origin (shape_said (metadata_of_array self.now.array))) }
+    {
         match region {
             Some(region) if region.inbounds_shape(self.array.shape()) => Ok(region),
             Some(region) => Err(outside(alloc, &self.array, &region)),
