@@ -1,18 +1,20 @@
--- What a store of cells leaves of a directory whose store was lent.
+-- What calls leave of a directory whose store was lent.
 use Rattle.std.proofs.Common.{◌≡◌, ℕ, List, Bool, true, false, ◌&&◌, Some, refl, subst, ap}
-use Rattle.std.specs.Prelude.{Result, Ok, OnOk, slice_index}
+use Rattle.std.specs.Prelude.{Result, Ok, IfOk, OnOk, slice_index}
 use Rattle.std.specs.Borrow.{MutBor}
 use Rattle.zarrs_subset.specs.Regions.{Box, IsLong}
+use Rattle.zarrs_storage.specs.Store.{StoreState}
 use Rattle.zarrs_storage.specs.Wrappers.{lent_state}
 use Rattle.zarrs_data_type.specs.ArrayData.{ArrayData}
 use Rattle.zarrs_data_type.specs.Cells.{cells}
 use Rattle.zarrs_engine_calls.specs.Layout.{Layout}
 use Rattle.zarrs_engine_calls.specs.ChunkBoxes.{chunks_met}
+use Rattle.zarrs_engine_calls.specs.Compactions.{CompactsChunk}
 use Rattle.zarrs_engine_calls.specs.Fronts.{StoresAll}
 use Rattle.zarrs_engine_calls.specs.Patches.{writes_parts}
 use Rattle.zarrs_directory.specs.Directory.{directory_of, directory_state}
 use Rattle.zarrs_directory.specs.declared.store.DirectoryStore.{DirectoryStore}
-use Rattle.zarr_arrays.specs.Storing.{StoresOver, StoresCells}
+use Rattle.zarr_arrays.specs.Storing.{CompactsOver, CompactsRead, StoresOver, StoresCells}
 
 -- what is said of a good result
 pub ok_fact : {T E : Type 0} (P : Type 0) (result : Result T E) (value : T) → result ≡ Ok value → OnOk result P → P
@@ -51,6 +53,34 @@ module _ {R : Type 0} (layout : Layout) where
   pub stores_cells : (region : Box) (held : ArrayData) (old read new : DirectoryStore R) → directory_of read ≡ directory_of old → StoresOver layout region held read new
       → StoresCells layout region held old new
   stores_cells region held old read new same stores = record { read = read; same = same; stores = stores }
+
+  -- ---- a chunk that is compacted
+
+  module _ (index : List ℕ) (old new : MutBor (DirectoryStore R)) where
+    -- what is compacted through the loan is compacted in the directory
+    pub compacts_over : (answer : Bool) → CompactsChunk layout index answer (lent_state directory_state old) (lent_state directory_state new)
+        → CompactsOver layout index answer old.now new.now
+    compacts_over true compacts = record {
+      encoded = compacts.encoded;
+      less = compacts.less;
+      stands = compacts.stands;
+      compacts = compacts.compacts;
+      held = compacts.put.held;
+      others = compacts.put.others;
+    }
+    compacts_over false leaves = record {
+      values = ap (λ (s : StoreState). s.values) leaves.same;
+      compact = λ encoded stands. (leaves.compact encoded stands).1;
+    }
+
+    pub compacted_loan : (answer : Bool) → CompactsChunk layout index answer (lent_state directory_state old) (lent_state directory_state new)
+        → new.ghost_name ≡ old.ghost_name
+    compacted_loan true compacts = ap (λ (l : List ℕ). slice_index l 0) compacts.put.makes.reach.lenders
+    compacted_loan false leaves = ap (λ (s : StoreState). slice_index s.lenders 0) leaves.same
+
+  pub compacts_read : (index : List ℕ) (answer : Bool) (old read new : DirectoryStore R) → directory_of read ≡ directory_of old
+      → CompactsOver layout index answer read new → CompactsRead layout index answer old new
+  compacts_read index answer old read new same compacts = record { read = read; same = same; compacts = compacts }
 
 -- what was stored through an array of this layout, over the store that was lent
 pub stored_there : {R : Type 0} (layout other : Layout) (region : Box) (held : ArrayData) (from to old new : DirectoryStore R) → other ≡ layout → from ≡ old → to ≡ new

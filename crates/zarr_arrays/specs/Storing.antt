@@ -1,5 +1,5 @@
--- What a store of cells leaves of a directory.
-use Rattle.std.specs.Prelude.{◌≡◌, ℕ, List, Some, length, if◌then◌else◌}
+-- What a store of cells, or the compaction of a chunk, leaves of a directory.
+use Rattle.std.specs.Prelude.{◌≡◌, ◌≢◌, ℕ, List, Bool, true, false, Some, None, length, if◌then◌else◌}
 use Rattle.std.specs.Borrow.{MutBor}
 use Rattle.zarrs_subset.specs.Boxes.{position_count}
 use Rattle.zarrs_subset.specs.Regions.{Box, IsLong, in_box, cell_in}
@@ -12,6 +12,7 @@ use Rattle.zarrs_engine_calls.specs.Layout.{Layout}
 use Rattle.zarrs_engine_calls.specs.Content.{value_at, content}
 use Rattle.zarrs_engine_calls.specs.Changes.{ChangesKeysOf}
 use Rattle.zarrs_engine_calls.specs.ChunkBoxes.{chunks_met}
+use Rattle.zarrs_engine_calls.specs.Compactions.{compacted_bytes}
 use Rattle.zarrs_directory.specs.Directory.{directory_of, directory_state}
 use Rattle.zarrs_directory.specs.declared.store.DirectoryStore.{DirectoryStore}
 use Rattle.zarrs.specs.Arrays.{storage_of_array}
@@ -37,3 +38,28 @@ module _ {R : Type 0} where
     pub read : DirectoryStore R
     pub same : directory_of read ≡ directory_of old
     pub stores : StoresOver layout region held read new
+
+  -- the compaction of the bytes of the chunk took their place, and no other value changed
+  pub record CompactsBytes (layout : Layout) (index : List ℕ) (old new : DirectoryStore R) : Type 0 where
+    pub encoded : List ℕ
+    pub less : List ℕ
+    pub stands : value_at (directory_state old) (layout.key index) ≡ Some encoded
+    pub compacts : compacted_bytes layout index encoded ≡ Some (Some less)
+    pub held : value_at (directory_state new) (layout.key index) ≡ Some less
+    pub others : (key : List ℕ) → key ≢ layout.key index → value_at (directory_state new) key ≡ value_at (directory_state old) key
+
+  -- no value changed: the chunk is absent, or its bytes are compact
+  pub record LeavesBytes (layout : Layout) (index : List ℕ) (old new : DirectoryStore R) : Type 0 where
+    pub values : (directory_state new).values ≡ (directory_state old).values
+    pub compact : (encoded : List ℕ) → value_at (directory_state old) (layout.key index) ≡ Some encoded → compacted_bytes layout index encoded ≡ Some None
+
+  -- by the answer: whether the bytes changed
+  abbrev pub CompactsOver : Layout → List ℕ → Bool → DirectoryStore R → DirectoryStore R → Type 0
+  CompactsOver layout index true old new = CompactsBytes layout index old new
+  CompactsOver layout index false old new = LeavesBytes layout index old new
+
+  -- the same of what was read of this directory first
+  pub record CompactsRead (layout : Layout) (index : List ℕ) (answer : Bool) (old new : DirectoryStore R) : Type 0 where
+    pub read : DirectoryStore R
+    pub same : directory_of read ≡ directory_of old
+    pub compacts : CompactsOver layout index answer read new

@@ -3,12 +3,12 @@ ghost use Rattle.std.specs.Prelude.{◌≡◌, length, IfOk, OnOk};
 ghost use Rattle.zarrs_data_type.specs.ArrayData.{data_of};
 ghost use Rattle.zarrs_subset.specs.Regions.{box_of};
 ghost use Rattle.zarrs_engine_calls.specs.ChunkBoxes.{chunks_met};
-ghost use Rattle.zarrs_engine_calls.specs.Reach.{MayAskChunks, MayAskParts};
+ghost use Rattle.zarrs_engine_calls.specs.Reach.{MayAskChunk, MayAskChunks, MayAskParts};
 ghost use Rattle.zarrs_storage.specs.Wrappers.{lent_state};
 ghost use Rattle.zarrs.specs.Arrays.{layout_of_array, store_of_array};
 ghost use Rattle.zarrs_directory.specs.Directory.{directory_state};
 ghost use Rattle.zarr_arrays.specs.Reading.{HasRead, ReadsCells};
-ghost use Rattle.zarr_arrays.specs.Storing.{StoresOver, lent_to};
+ghost use Rattle.zarr_arrays.specs.Storing.{CompactsOver, StoresOver, lent_to};
 
 use crate::opened::Store;
 use crate::refusals::Refusal;
@@ -104,6 +104,23 @@ pub(crate) fn store_cells(
     Ok(())
 }
 
+/// Compacts the chunk with these indices, which was read, through an array over a store that is lent.
+fn compact_through(
+    array: &mut Array<Lent<'_, Store<'_>>>,
+    alloc: Global,
+    indices: &[u64],
+) -> Result<bool, Refusal>
+    requires dimensions { length indices.now ≡ (layout_of_array array.old).grid.dimensions }
+    requires ask { MayAskChunk (layout_of_array array.old) indices.now
+        (directory_state (lent_to array.old).now) }
+    ensures loan { OnOk result ((lent_to array.new).ghost_name ≡ (lent_to array.old).ghost_name) }
+    ensures compacted { IfOk result (λ answer. CompactsOver (layout_of_array array.old) indices.now
+        answer (lent_to array.old).now (lent_to array.new).now) }
+{
+    let answer = array.compact_chunk(alloc, indices, &CodecOptions::default())?;
+    Ok(answer)
+}
+
 /// Compacts the chunk with these indices, which was read. Returns whether it was not compact.
 pub(crate) fn compact_chunk(
     array: &Array<()>,
@@ -113,11 +130,13 @@ pub(crate) fn compact_chunk(
 ) -> Result<bool, Refusal>
     requires dimensions { length indices.now ≡ (layout_of_array array.now).grid.dimensions }
     requires ask { HasRead (layout_of_array array.now) store.old indices.now }
+    ensures { IfOk result (λ answer. CompactsOver (layout_of_array array.now) indices.now answer
+        store.old store.new) }
 {
     let mut array = writing(array, alloc, store)?;
-    let outcome = array.compact_chunk(alloc, indices, &CodecOptions::default());
-    drop(array);
-    Ok(outcome?)
+    let outcome = compact_through(&mut array, alloc, indices);
+    let _store = array.into_storage().into_inner();
+    outcome
 }
 
 /// Makes the V2 document of the array a V3 one.
