@@ -1,39 +1,23 @@
 #!/bin/bash
-# build.sh [FOLDER]: makes FOLDER/zarr (tool/out), the program of these sources over the crates of this repository. Nothing is proved by it.
-# TOOL_ROOM: a folder outside the repository where it is built, and which then stays (a new one, removed at the end).
-# README.md says how it is built.
+# build.sh [--as-proved] FOLDER: makes FOLDER/zarr, the program `zarr` without any proof, and runs the gate's session by it (`crates/zarr`).
+# FOLDER lies outside the repository. It needs the kit (rt) and a C compiler, and some five minutes of one processor.
+#
+# rt try compiles the program; a kit of links whose clang keeps the LLVM module, and stops there, gives that to LLVM. Each test that a proof
+# makes needless stays in it, and stops the program where it fails. With --as-proved they are left out, as bench/README.md says, for times.
 set -euo pipefail
-tool=$(dirname "$(realpath "$0")")
-top=$(dirname "$tool")
-out=${1:-$tool/out}
-kit=$(realpath "$(dirname "$(realpath "$(command -v rt)")")/..")
-if [ "${TOOL_ROOM:-}" ]; then
-    mkdir -p "$TOOL_ROOM"
-    room=$(realpath "$TOOL_ROOM")
-else
-    room=$(mktemp -d)
-    trap 'rm -rf "$room"' EXIT
+top=$(dirname "$(dirname "$(realpath "$0")")")
+as_proved=
+if [ "${1:-}" = --as-proved ]; then
+    as_proved=yes
+    shift
 fi
-case $room/ in "$top"/*) echo "build.sh: $room lies in the repository" >&2; exit 2 ;; esac
+mkdir -p "$1"
+folder=$(realpath "$1")
+kit=$(realpath "$(dirname "$(realpath "$(command -v rt)")")/..")
+case $folder/ in "$top"/*) echo "build.sh: $folder lies in the repository" >&2; exit 2 ;; esac
 
 clang() {
-    (exec -a clang "$kit/toolchain/bin/clang" "$@")
-}
-
-# A copy of the repository's crates, with those of the tool behind them. The ending .txt goes, and a wrong body is one that no gate tries.
-copy() {
-    rm -rf "$room/copy"
-    mkdir -p "$room/copy"
-    tar -C "$top" --exclude='./crates/*/out' -cf - ./crates ./crates.txt ./HANDLES | tar -C "$room/copy" -xf -
-    cat "$tool/crates.txt.part" >> "$room/copy/crates.txt"
-    local crate path to
-    for crate in zarr_commands zarr; do
-        while IFS= read -r path; do
-            to=$room/copy/crates/$crate/${path%.txt}
-            mkdir -p "$(dirname "$to")"
-            cp "$tool/$crate/$path" "${to/%.edit/.edit.md}"
-        done < <(cd "$tool/$crate" && find . -name '*.txt' -type f -not -path './data/*')
-    done
+    (exec -a clang "$kit/toolchain/bin/clang" --no-default-config -no-canonical-prefixes -Wno-everything "$@")
 }
 
 # Links to a folder's files, but for those that are named.
@@ -44,37 +28,48 @@ links() {
     for it in "$from"/*; do case " $* " in *" ${it##*/} "*) ;; *) ln -s "$it" "$to/" ;; esac; done
 }
 
-# The module that rt try compiles: a copy of the kit, all links, whose clang keeps it and stops there. bench/build.sh does the same.
 module() {
-    rm -rf "$room/kit" "$room/module.bc"
-    links "$kit" "$room/kit" bin toolchain
-    links "$kit/bin" "$room/kit/bin" rt rtlib.py rattle
-    links "$kit/toolchain" "$room/kit/toolchain" bin
-    links "$kit/toolchain/bin" "$room/kit/toolchain/bin" clang
-    cp "$kit/bin/rt" "$kit/bin/rtlib.py" "$room/kit/bin/"
-    cat > "$room/kit/toolchain/bin/clang" << END
+    rm -rf "$folder/copy" "$folder/kit" "$folder/module.bc"
+    mkdir -p "$folder/copy"
+    tar -C "$top" --exclude='./crates/*/out' -cf - ./crates ./crates.txt ./HANDLES | tar -C "$folder/copy" -xf -
+    links "$kit" "$folder/kit" bin toolchain
+    links "$kit/bin" "$folder/kit/bin" rt rtlib.py rattle
+    links "$kit/toolchain" "$folder/kit/toolchain" bin
+    links "$kit/toolchain/bin" "$folder/kit/toolchain/bin" clang
+    cp "$kit/bin/rt" "$kit/bin/rtlib.py" "$folder/kit/bin/"
+    cat > "$folder/kit/toolchain/bin/clang" << END
 #!/bin/bash
 for it in "\$@"; do
-    if [[ \$it == *.bc && \$(stat -c %s "\$it") -gt 1000000 ]]; then cp "\$it" "$room/module.bc"; exit 1; fi
+    if [[ \$it == *.bc && \$(stat -c %s "\$it") -gt 1000000 ]]; then cp "\$it" "$folder/module.bc"; exit 1; fi
 done
 exec -a clang "$kit/toolchain/bin/clang" "\$@"
 END
     # rt try asks rattle for hints only.
-    printf '#!/bin/sh\n' > "$room/kit/bin/rattle"
-    chmod +x "$room/kit/toolchain/bin/clang" "$room/kit/bin/rattle"
-    (cd "$room/copy/crates/zarr" && "$room/kit/bin/rt" try) > "$room/try.log" 2>&1 < /dev/null || true
-    if [ ! -s "$room/module.bc" ]; then cat "$room/try.log" >&2; exit 1; fi
+    printf '#!/bin/sh\n' > "$folder/kit/bin/rattle"
+    chmod +x "$folder/kit/toolchain/bin/clang" "$folder/kit/bin/rattle"
+    (cd "$folder/copy/crates/zarr" && "$folder/kit/bin/rt" try) > "$folder/try.log" 2>&1 < /dev/null || true
+    if [ ! -s "$folder/module.bc" ]; then cat "$folder/try.log" >&2; exit 1; fi
 }
 
-# The program, with every test that rt try puts in: no proof makes one needless here.
 program() {
-    clang --target=x86_64-unknown-linux-gnu -march=x86-64-v2 -O1 -fPIE -ffunction-sections -fdata-sections --no-default-config \
-        -no-canonical-prefixes -fintegrated-cc1 -fno-crash-diagnostics -Wno-everything -c -x ir "$room/module.bc" -o "$room/zarr.o"
-    cc -pie -Wl,--gc-sections -o "$room/zarr" "$room/zarr.o" "$kit/c/libos_c.a" "$kit/c/liblibc_c.a"
+    local module=$folder/module.bc level=-O1
+    if [ "$as_proved" ]; then
+        clang -S -emit-llvm -O0 -x ir "$module" -o "$folder/module.ll"
+        python3 "$top/bench/as_proved.py" "$folder/module.ll" "$folder/proved.ll" "$folder"/copy/crates/* "$kit"/rattle/*
+        sed -i 's/@rattle_main()/@main()/' "$folder/proved.ll"
+        module=$folder/proved.ll level=-O3
+    fi
+    clang --target=x86_64-unknown-linux-gnu -march=x86-64-v2 "$level" -fPIE -ffunction-sections -fdata-sections -c -x ir "$module" -o "$folder/zarr.o"
+    cc -pie -Wl,--gc-sections -o "$folder/zarr" "$folder/zarr.o" "$kit/c/libos_c.a" "$kit/c/liblibc_c.a"
 }
 
-copy
+# The session must print what the gate compares it with, and nothing to standard error.
+session() {
+    local data=$folder/copy/crates/zarr/data
+    (cd "$data" && "$folder/zarr" do session.zarr 2>&1) | diff "$top/crates/zarr/stdout" - && echo "$folder/zarr: the session is as it must be"
+}
+
 module
 program
-mkdir -p "$out"
-cp "$room/zarr" "$out/zarr"
+session
+rm -rf "$folder/copy" "$folder/kit" "$folder"/module.* "$folder"/proved.ll "$folder/zarr.o"
