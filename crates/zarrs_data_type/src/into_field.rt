@@ -1,10 +1,10 @@
 //! Values that become fields.
 ghost use Rattle.std.specs.Prelude.{◌≡◌, [], ◌∷◌, if◌then◌else◌, IfOk};
 ghost use Rattle.std.specs.Prelude.{Some, option_map, string_bytes};
-ghost use Rattle.std.specs.Int.{w8, w16, w32, w64, cast_unsigned, to_le_bytes};
 
 use std::alloc::{AllocError, Global};
 use zarrs_data_type_kinds::FillValue;
+use zarrs_data_type_numbers::{NumberBytes, WholeNumber};
 use zarrs_subset::ArrayShape;
 
 /// A value that becomes a field, in memory of the allocator.
@@ -38,67 +38,11 @@ impl IntoField<FillValue> for bool {
     }
 }
 
-impl IntoField<FillValue> for u8 {
-    ghost gives = { λ value field. field ≡ value ∷ [] };
+impl<T: WholeNumber> IntoField<FillValue> for T {
+    ghost gives = { λ value field. field ≡ T.Bytes.le_bytes value };
 
     fn into_field(self, alloc: Global) -> Result<FillValue, AllocError> {
-        Ok(FillValue::new(Vec::from_slice(alloc, &self.to_le_bytes())?))
-    }
-}
-
-impl IntoField<FillValue> for u16 {
-    ghost gives = { λ value field. field ≡ to_le_bytes w16 value };
-
-    fn into_field(self, alloc: Global) -> Result<FillValue, AllocError> {
-        Ok(FillValue::new(Vec::from_slice(alloc, &self.to_le_bytes())?))
-    }
-}
-
-impl IntoField<FillValue> for u32 {
-    ghost gives = { λ value field. field ≡ to_le_bytes w32 value };
-
-    fn into_field(self, alloc: Global) -> Result<FillValue, AllocError> {
-        Ok(FillValue::new(Vec::from_slice(alloc, &self.to_le_bytes())?))
-    }
-}
-
-impl IntoField<FillValue> for u64 {
-    ghost gives = { λ value field. field ≡ to_le_bytes w64 value };
-
-    fn into_field(self, alloc: Global) -> Result<FillValue, AllocError> {
-        Ok(FillValue::new(Vec::from_slice(alloc, &self.to_le_bytes())?))
-    }
-}
-
-impl IntoField<FillValue> for i8 {
-    ghost gives = { λ value field. field ≡ cast_unsigned w8 value ∷ [] };
-
-    fn into_field(self, alloc: Global) -> Result<FillValue, AllocError> {
-        Ok(FillValue::new(Vec::from_slice(alloc, &self.to_le_bytes())?))
-    }
-}
-
-impl IntoField<FillValue> for i16 {
-    ghost gives = { λ value field. field ≡ to_le_bytes w16 (cast_unsigned w16 value) };
-
-    fn into_field(self, alloc: Global) -> Result<FillValue, AllocError> {
-        Ok(FillValue::new(Vec::from_slice(alloc, &self.to_le_bytes())?))
-    }
-}
-
-impl IntoField<FillValue> for i32 {
-    ghost gives = { λ value field. field ≡ to_le_bytes w32 (cast_unsigned w32 value) };
-
-    fn into_field(self, alloc: Global) -> Result<FillValue, AllocError> {
-        Ok(FillValue::new(Vec::from_slice(alloc, &self.to_le_bytes())?))
-    }
-}
-
-impl IntoField<FillValue> for i64 {
-    ghost gives = { λ value field. field ≡ to_le_bytes w64 (cast_unsigned w64 value) };
-
-    fn into_field(self, alloc: Global) -> Result<FillValue, AllocError> {
-        Ok(FillValue::new(Vec::from_slice(alloc, &self.to_le_bytes())?))
+        Ok(FillValue::new(T::Bytes::to_bytes(alloc, &[self])?))
     }
 }
 

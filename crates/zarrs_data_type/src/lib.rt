@@ -28,8 +28,8 @@ pub use zarrs_data_type_kinds::{
     data_type, inner_fill,
 };
 pub use zarrs_data_type_numbers::{
-    WholeNumber, Writing, convert_from_bytes_slice, convert_to_bytes_vec, transmute_from_bytes_vec,
-    transmute_to_bytes, transmute_to_bytes_vec, written,
+    NumberBytes, WholeNumber, Writing, convert_from_bytes_slice, convert_to_bytes_vec,
+    transmute_from_bytes_vec, transmute_to_bytes, transmute_to_bytes_vec, written,
 };
 pub use zarrs_data_type_region::{
     ArrayBytesDecodeIntoTarget, ArrayBytesFixedDisjointViewCreateError, RefusedTarget, RegionCells,

@@ -3,6 +3,7 @@ use Rattle.std.proofs.Common.{◌≡◌, ◌==◌, ℕ, ◌+◌, ◌*◌, ◌<�
 use Rattle.std.proofs.Common.{Option, None, Some, ◌&&◌, refl, sym, ap, ◌∙◌, subst, arith}
 use Rattle.std.specs.Prelude.{IfSome, slice_index, slice_range}
 use Rattle.std.specs.List.{flat_map}
+use Rattle.std.specs.Option.{option_map_or}
 use Rattle.std.proofs.lemmas.Bool.{and_from, eq-eqb}
 use Rattle.std.proofs.lemmas.List.{length-map, get_or-map, length-replicate}
 use Rattle.std.proofs.lemmas.List.FromFn.{get_or-map-range_with_len}
@@ -23,10 +24,14 @@ use Rattle.zarrs_data_type_elements.specs.Elements.{option_cell, HoldsOptions}
 use Rattle.zarrs_data_type_elements.proofs.OptionCells.{inner_is}
 
 -- the inner type is this one
-pub options-of : (k u l : Kind) (size : ℕ) → inner_of k ≡ Some u → kind_eq u l ≡ true → element_size l ≡ Some size → takes_any_bytes l ≡ true → HoldsOptions k size
-options-of k u l size inner is sized any =
-    let same = (kind_eq-Decides u l).0 is in
-    (u, inner, ap element_size same ∙ sized, ap takes_any_bytes same ∙ any)
+pub options-served : (k l : Kind) (size : ℕ) → option_map_or (λ u. kind_eq u l) (inner_of k) false ≡ true → element_size l ≡ Some size → takes_any_bytes l ≡ true → HoldsOptions k size
+options-served k l size served sized any = go (inner_of k) refl served
+  where
+    go : (o : Option Kind) → inner_of k ≡ o → option_map_or (λ u. kind_eq u l) o false ≡ true → HoldsOptions k size
+    go None inner is = cc
+    go (Some u) inner is =
+        let same = (kind_eq-Decides u l).0 is in
+        (u, inner, ap element_size same ∙ sized, ap takes_any_bytes same ∙ any)
 
 -- data under a mask of its length fits
 fitting-optional : (k u : Kind) (mask : List ℕ) (d : ArrayData) (n : ℕ) → inner_of k ≡ Some u → length mask ≡ n → fits u d n ≡ true → fits k (optional mask d) n ≡ true

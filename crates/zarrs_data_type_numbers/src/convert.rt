@@ -2,7 +2,7 @@
 ghost use Rattle.std.specs.Prelude.{◌≡◌, ◌%◌, IfOk, length};
 ghost use Rattle.std.specs.List.{flat_map};
 
-use crate::whole_number::WholeNumber;
+use crate::whole_number::{NumberBytes, WholeNumber};
 use std::alloc::{AllocError, Global};
 
 /// The numbers of these bytes.
@@ -13,10 +13,10 @@ pub fn convert_from_bytes_slice<T: WholeNumber>(
     alloc: Global,
     bytes: &[u8],
 ) -> Result<Vec<T>, AllocError>
-    requires { length bytes.now % T.size ≡ 0 }
-    ensures { IfOk result (λ numbers. flat_map T.le_bytes numbers.items ≡ bytes.now) }
+    requires { length bytes.now % T.Bytes.size ≡ 0 }
+    ensures { IfOk result (λ numbers. flat_map T.Bytes.le_bytes numbers.items ≡ bytes.now) }
 {
-    T::from_bytes(alloc, bytes)
+    T::Bytes::from_bytes(alloc, bytes)
 }
 
 /// The numbers of these bytes.
@@ -27,10 +27,10 @@ pub fn transmute_from_bytes_vec<T: WholeNumber>(
     alloc: Global,
     bytes: Vec<u8>,
 ) -> Result<Vec<T>, AllocError>
-    requires { length bytes.items % T.size ≡ 0 }
-    ensures { IfOk result (λ numbers. flat_map T.le_bytes numbers.items ≡ bytes.items) }
+    requires { length bytes.items % T.Bytes.size ≡ 0 }
+    ensures { IfOk result (λ numbers. flat_map T.Bytes.le_bytes numbers.items ≡ bytes.items) }
 {
-    T::from_bytes(alloc, bytes.as_slice())
+    T::Bytes::from_bytes(alloc, bytes.as_slice())
 }
 
 /// The bytes of these numbers.
@@ -41,9 +41,9 @@ pub fn convert_to_bytes_vec<T: WholeNumber>(
     alloc: Global,
     numbers: &[T],
 ) -> Result<Vec<u8>, AllocError>
-    ensures { IfOk result (λ bytes. bytes.items ≡ flat_map T.le_bytes numbers.now) }
+    ensures { IfOk result (λ bytes. bytes.items ≡ flat_map T.Bytes.le_bytes numbers.now) }
 {
-    T::to_bytes(alloc, numbers)
+    T::Bytes::to_bytes(alloc, numbers)
 }
 
 /// The bytes of these numbers.
@@ -54,9 +54,9 @@ pub fn transmute_to_bytes_vec<T: WholeNumber>(
     alloc: Global,
     numbers: Vec<T>,
 ) -> Result<Vec<u8>, AllocError>
-    ensures { IfOk result (λ bytes. bytes.items ≡ flat_map T.le_bytes numbers.items) }
+    ensures { IfOk result (λ bytes. bytes.items ≡ flat_map T.Bytes.le_bytes numbers.items) }
 {
-    T::to_bytes(alloc, numbers.as_slice())
+    T::Bytes::to_bytes(alloc, numbers.as_slice())
 }
 
 /// The bytes of these numbers.
@@ -67,7 +67,7 @@ pub fn transmute_to_bytes<T: WholeNumber>(
     alloc: Global,
     numbers: &[T],
 ) -> Result<Vec<u8>, AllocError>
-    ensures { IfOk result (λ bytes. bytes.items ≡ flat_map T.le_bytes numbers.now) }
+    ensures { IfOk result (λ bytes. bytes.items ≡ flat_map T.Bytes.le_bytes numbers.now) }
 {
-    T::to_bytes(alloc, numbers)
+    T::Bytes::to_bytes(alloc, numbers)
 }

@@ -4,7 +4,7 @@
 //! that implements `Writing` says how one value is written. Callers use `convert_from_bytes_slice`,
 //! `convert_to_bytes_vec`, `transmute_to_bytes`, `transmute_to_bytes_vec` and `transmute_from_bytes_vec`.
 //!
-//! The ghost member `le_bytes` of `WholeNumber` has the bytes of a number, the lowest first, and `size` their count.
+//! The ghost member `le_bytes` of `NumberBytes` has the bytes of a number, the lowest first, and `size` their count.
 //! The ghost member `written` of `Writing` has the bytes of a value. `option_bytes` of `specs/Options.antt` has those
 //! of a value that may be absent, and `option_flag` whether it is present. This crate stands on no other.
 #![tactic(auto)]
@@ -19,5 +19,5 @@ pub use convert::{
     convert_from_bytes_slice, convert_to_bytes_vec, transmute_from_bytes_vec, transmute_to_bytes,
     transmute_to_bytes_vec,
 };
-pub use whole_number::WholeNumber;
+pub use whole_number::{NumberBytes, WholeNumber};
 pub use writing::{Writing, written};

@@ -1,7 +1,8 @@
 //! A number and its bytes, the lowest byte first.
-ghost use Rattle.std.specs.Prelude.{◌≡◌, ℕ, ◌%◌, ◌<◌, List, [], ◌∷◌, IfOk, length, slice_index};
+ghost use Rattle.std.specs.Prelude.{◌≡◌, ℕ, ◌%◌, ◌<◌, List, [], ◌∷◌, IfOk, length, refl, slice_index};
 ghost use Rattle.std.specs.Int.{w8, w16, w32, w64, cast_unsigned, to_le_bytes};
 ghost use Rattle.std.specs.List.{flat_map};
+ghost use Rattle.std.proofs.Common.{lit≤};
 
 use crate::writing::Writing;
 use std::alloc::{AllocError, Global};
@@ -10,6 +11,12 @@ use std::alloc::{AllocError, Global};
 pub(crate) trait LittleEndian<const N: usize>: Copy + Drop {
     // Its bytes, the lowest first.
     ghost le_bytes: { Self → List ℕ };
+
+    // They are at most 8.
+    ghost width: { (0 < N) × (N < 9) };
+
+    // Each number has them.
+    ghost sized: { (number : Self) → length (le_bytes number) ≡ N };
 
     fn to_le(self) -> [u8; N]
         ensures { result ≡ le_bytes self };
@@ -50,6 +57,10 @@ pub(crate) fn from_bytes<T: LittleEndian<N>, const N: usize>(
 impl LittleEndian<1> for u8 {
     ghost le_bytes = { λ x. x ∷ [] };
 
+    ghost width = { (lit≤ tt, lit≤ tt) };
+
+    ghost sized = { λ number. refl };
+
     fn to_le(self) -> [u8; 1] {
         self.to_le_bytes()
     }
@@ -61,6 +72,10 @@ impl LittleEndian<1> for u8 {
 
 impl LittleEndian<2> for u16 {
     ghost le_bytes = { λ x. to_le_bytes w16 x };
+
+    ghost width = { (lit≤ tt, lit≤ tt) };
+
+    ghost sized = { λ number. refl };
 
     fn to_le(self) -> [u8; 2] {
         self.to_le_bytes()
@@ -74,6 +89,10 @@ impl LittleEndian<2> for u16 {
 impl LittleEndian<4> for u32 {
     ghost le_bytes = { λ x. to_le_bytes w32 x };
 
+    ghost width = { (lit≤ tt, lit≤ tt) };
+
+    ghost sized = { λ number. refl };
+
     fn to_le(self) -> [u8; 4] {
         self.to_le_bytes()
     }
@@ -85,6 +104,10 @@ impl LittleEndian<4> for u32 {
 
 impl LittleEndian<8> for u64 {
     ghost le_bytes = { λ x. to_le_bytes w64 x };
+
+    ghost width = { (lit≤ tt, lit≤ tt) };
+
+    ghost sized = { λ number. refl };
 
     fn to_le(self) -> [u8; 8] {
         self.to_le_bytes()
@@ -98,6 +121,10 @@ impl LittleEndian<8> for u64 {
 impl LittleEndian<1> for i8 {
     ghost le_bytes = { λ x. cast_unsigned w8 x ∷ [] };
 
+    ghost width = { (lit≤ tt, lit≤ tt) };
+
+    ghost sized = { λ number. refl };
+
     fn to_le(self) -> [u8; 1] {
         self.to_le_bytes()
     }
@@ -109,6 +136,10 @@ impl LittleEndian<1> for i8 {
 
 impl LittleEndian<2> for i16 {
     ghost le_bytes = { λ x. to_le_bytes w16 (cast_unsigned w16 x) };
+
+    ghost width = { (lit≤ tt, lit≤ tt) };
+
+    ghost sized = { λ number. refl };
 
     fn to_le(self) -> [u8; 2] {
         self.to_le_bytes()
@@ -122,6 +153,10 @@ impl LittleEndian<2> for i16 {
 impl LittleEndian<4> for i32 {
     ghost le_bytes = { λ x. to_le_bytes w32 (cast_unsigned w32 x) };
 
+    ghost width = { (lit≤ tt, lit≤ tt) };
+
+    ghost sized = { λ number. refl };
+
     fn to_le(self) -> [u8; 4] {
         self.to_le_bytes()
     }
@@ -133,6 +168,10 @@ impl LittleEndian<4> for i32 {
 
 impl LittleEndian<8> for i64 {
     ghost le_bytes = { λ x. to_le_bytes w64 (cast_unsigned w64 x) };
+
+    ghost width = { (lit≤ tt, lit≤ tt) };
+
+    ghost sized = { λ number. refl };
 
     fn to_le(self) -> [u8; 8] {
         self.to_le_bytes()

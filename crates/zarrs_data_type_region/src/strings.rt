@@ -4,7 +4,7 @@ ghost use Rattle.std.specs.List.{range_with_len};
 ghost use Rattle.zarrs_data_type_bytes.specs.Parts.{TakesAt};
 ghost use Rattle.zarrs_data_type_region.specs.Places.{ArePlaces, offsets_from, placed_strings, string_of};
 ghost use Rattle.zarrs_subset.specs.Boxes.{position_count};
-ghost use Rattle.zarrs_subset.specs.Regions.{box_of, overlap_of};
+ghost use Rattle.zarrs_subset.specs.Regions.{box_of};
 ghost use Rattle.zarrs_data_type_bytes.specs.Offsets.{joined};
 
 use crate::numbers::Numbers;
@@ -12,7 +12,7 @@ use std::alloc::{AllocError, Global};
 use std::borrow::CowSlice;
 use std::marker::Model;
 use zarrs_data_type_bytes::{ArrayBytesOffsets, ArrayBytesVariableLength, extract_strings};
-use zarrs_subset::{ArraySubset, ArraySubsetError, lies_in_box};
+use zarrs_subset::{ArraySubset, lies_in_box};
 
 /// A byte string for each position of a region, in row-major order: where it starts among the bytes, and its length.
 /// Those of a part are put behind the bytes, and no byte moves. Contracts see the list of the byte strings.
@@ -73,7 +73,7 @@ impl PlacedStrings {
         if lies_in_box(part_box, held_box) {
             return self.with_all(alloc, held_box, part, part_box);
         }
-        let shared = shared_box(alloc, held_box, part_box)?;
+        let shared = held_box.shared_with(alloc, part_box)?;
         if shared.is_empty() {
             return Ok(self);
         }
@@ -220,24 +220,4 @@ fn lens_of(alloc: Global, strings: &ArrayBytesVariableLength<'_>) -> Result<Numb
         lens.push((cuts[index + 1] - cuts[index]) as u64)?;
     }
     Ok(lens)
-}
-
-/// The positions that two boxes of the same number of dimensions share.
-fn shared_box(
-    alloc: Global,
-    one: &ArraySubset,
-    other: &ArraySubset,
-) -> Result<ArraySubset, AllocError>
-    requires { length (box_of one.now).start ≡ length (box_of other.now).start }
-    ensures { IfOk result (λ shared. box_of shared
-        ≡ overlap_of (box_of one.now) (box_of other.now)) }
-{
-    match one.overlap(alloc, other) {
-        Ok(shared) => Ok(shared),
-        Err(ArraySubsetError::OutOfMemory) => Err(AllocError),
-        Err(ArraySubsetError::IncompatibleDimensionality(_)) => unreachable!(),
-        Err(ArraySubsetError::EndOverflow) => unreachable!(),
-        Err(ArraySubsetError::EndBelowStart) => unreachable!(),
-        Err(ArraySubsetError::StartBelowOffset) => unreachable!(),
-    }
 }

@@ -277,15 +277,12 @@ impl<'a, 'm, 'r> ArrayBytesDecodeIntoTarget<'a, 'm, 'r> {
         ensures kept_bytes { OnErr result (self.new.bytes.now ≡ self.old.bytes.now) }
         ensures kept_masks { OnErr result (self.new.masks.now ≡ self.old.masks.now) }
     {
-        let Some(count) = element_count(self.parent_shape) else {
-            unreachable!()
-        };
         let origin = vec![in alloc; 0u64; self.parent_shape.len()]?;
         let place = Place {
             shape: self.parent_shape,
             origin: origin.as_slice(),
             region: self.region,
-            count: count as usize,
+            count: positions(self.parent_shape),
             cell_size: self.cell_size,
         };
         write_levels(region_data, self.depth, &place, self.masks, self.bytes);
@@ -473,38 +470,20 @@ fn fill_part(place: &Place<'_>, target: &mut [u8], piece: &[u8])
     if place.region.is_empty() {
         return;
     }
-    fill_rows(
+    let extents = place.region.shape();
+    fill_blocks(
+        row_axis(place.shape, extents),
         place.shape,
         place.region.start(),
-        place.region.shape(),
-        target,
-        piece,
-    );
-}
-
-/// The same, for a box that has positions: the parent's shape, and where the box lies in it.
-fn fill_rows(shape: &[u64], start: &[u64], extents: &[u64], target: &mut [u8], piece: &[u8])
-    requires long { length start.now ≡ length shape.now }
-    requires dimensions { length shape.now ≡ length extents.now }
-    requires fits { BoxFits start.now extents.now shape.now }
-    requires counted { position_count shape.now < 2 ^ 64 }
-    requires some { 0 < position_count extents.now }
-    requires target_len { length target.old ≡ position_count shape.now * length piece.now }
-    ensures { IsFilledBox (length piece.now) shape.now start.now extents.now piece.now
-        target.old target.new }
-{
-    fill_blocks(
-        row_axis(shape, extents),
-        shape,
-        start,
         extents,
         target,
         piece,
     );
 }
 
-/// The same, for a box whose rows lie together from dimension `axis` on: one block of the first dimension after the
-/// other. Dimensions of extent 1 behind it are passed over, so that the calls nest only as deep as there are longer ones.
+/// The same, for a box that has positions and whose rows lie together from dimension `axis` on: one block of the first
+/// dimension after the other. Dimensions of extent 1 behind it are passed over, so that the calls nest only as deep as
+/// there are longer ones.
 fn fill_blocks(
     axis: usize,
     shape: &[u64],

@@ -50,27 +50,23 @@ impl<'a> ArrayBytes<'a> {
             (data_of self.now) (box_of subset.now) (data_of made)) }
     {
         match self {
-            ArrayBytes::Fixed(bytes) => match data_type.element_size() {
-                Some(size) => {
-                    let made = extract_bytes(alloc, bytes.as_slice(), size, held_box, subset)?;
-                    Ok(ArrayBytes::new_flen(made))
-                }
-                None => unreachable!(),
-            },
+            ArrayBytes::Fixed(bytes) => {
+                let size = data_type.element_size().unwrap();
+                let made = extract_bytes(alloc, bytes.as_slice(), size, held_box, subset)?;
+                Ok(ArrayBytes::new_flen(made))
+            }
             ArrayBytes::Variable(strings) => {
                 Ok(ArrayBytes::Variable(extract_strings(alloc, strings, held_box, subset)?))
             }
-            ArrayBytes::Optional(optional) => match data_type.optional_inner() {
-                Some(inner) => {
-                    let mask = optional.mask.extract(alloc, held_box, subset)?;
-                    let data = optional.data.extract(alloc, inner, held_box, subset)?;
-                    Ok(ArrayBytes::Optional(ArrayBytesOptional {
-                        data: Box::new(alloc, data)?,
-                        mask,
-                    }))
-                }
-                None => unreachable!(),
-            },
+            ArrayBytes::Optional(optional) => {
+                let inner = data_type.optional_inner().unwrap();
+                let mask = optional.mask.extract(alloc, held_box, subset)?;
+                let data = optional.data.extract(alloc, inner, held_box, subset)?;
+                Ok(ArrayBytes::Optional(ArrayBytesOptional {
+                    data: Box::new(alloc, data)?,
+                    mask,
+                }))
+            }
         }
     }
 }

@@ -257,16 +257,16 @@ impl<'a> ArrayBytes<'a> {
         match self {
             ArrayBytes::Fixed(bytes) => is_repeated(bytes.as_slice(), fill),
             ArrayBytes::Variable(strings) => are_all_strings(strings, fill),
-            ArrayBytes::Optional(optional) => match data_type.optional_inner() {
-                Some(inner) => match inner_fill(fill) {
+            ArrayBytes::Optional(optional) => {
+                let inner = data_type.optional_inner().unwrap();
+                match inner_fill(fill) {
                     None => are_all(optional.mask.as_slice(), 0),
                     Some(front) => {
                         are_all(optional.mask.as_slice(), 1)
                             && optional.data.is_filled(inner, front)
                     }
-                },
-                None => unreachable!(),
-            },
+                }
+            }
         }
     }
 }

@@ -72,9 +72,7 @@ impl ArrayBytes<'static> {
                 let ArrayBytes::Optional(given) = part else {
                     unreachable!()
                 };
-                let Some(inner) = data_type.optional_inner() else {
-                    unreachable!()
-                };
+                let inner = data_type.optional_inner().unwrap();
                 let ArrayBytesOptional { data, mask } = optional;
                 let mask = mask.with_part(alloc, held_box, given.mask(), part_box)?;
                 let data = Box::into_inner(data).put_part(
@@ -114,9 +112,7 @@ fn fixed_with_part(
     let ArrayBytes::Fixed(given) = part else {
         unreachable!()
     };
-    let Some(size) = data_type.element_size() else {
-        unreachable!()
-    };
+    let size = data_type.element_size().unwrap();
     let bytes = bytes.into_owned(alloc)?;
     let made = bytes_with_part(bytes, size, held_box, given.as_slice(), part_box);
     Ok(ArrayBytes::new_flen(made))

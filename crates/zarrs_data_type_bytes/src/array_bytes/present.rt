@@ -53,9 +53,7 @@ impl<'a> ArrayBytesOptional<'a> {
             (λ cs. cells (kind inner.now) (data_of made) ≡ Some (present_cells cs))) }
     {
         if let ArrayBytes::Fixed(cells) = &*self.data {
-            let Some(size) = inner.element_size() else {
-                unreachable!()
-            };
+            let size = inner.element_size().unwrap();
             let made = gather_fixed(alloc, cells.as_slice(), size, self.mask.as_slice())?;
             return Ok(ArrayBytes::Fixed(CowSlice::Owned(made)));
         }

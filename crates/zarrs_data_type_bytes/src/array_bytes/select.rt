@@ -74,25 +74,21 @@ impl<'a> ArrayBytes<'a> {
             (data_of self.now) places.now) }
     {
         match self {
-            ArrayBytes::Fixed(bytes) => match data_type.element_size() {
-                Some(size) => {
-                    let selected = select_fixed(alloc, bytes.as_slice(), size, places)?;
-                    Ok(ArrayBytes::Fixed(CowSlice::Owned(selected)))
-                }
-                None => unreachable!(),
-            },
+            ArrayBytes::Fixed(bytes) => {
+                let size = data_type.element_size().unwrap();
+                let selected = select_fixed(alloc, bytes.as_slice(), size, places)?;
+                Ok(ArrayBytes::new_flen(selected))
+            }
             ArrayBytes::Variable(strings) => {
                 let selected = select_strings(alloc, strings, places)?;
                 Ok(ArrayBytes::Variable(selected))
             }
-            ArrayBytes::Optional(optional) => match data_type.optional_inner() {
-                Some(inner) => {
-                    let flags = select_flags(alloc, optional.mask.as_slice(), places)?;
-                    let data = optional.data.select(alloc, inner, places)?;
-                    data.with_optional_mask(alloc, CowSlice::Owned(flags))
-                }
-                None => unreachable!(),
-            },
+            ArrayBytes::Optional(optional) => {
+                let inner = data_type.optional_inner().unwrap();
+                let flags = select_flags(alloc, optional.mask.as_slice(), places)?;
+                let data = optional.data.select(alloc, inner, places)?;
+                data.with_optional_mask(alloc, CowSlice::Owned(flags))
+            }
         }
     }
 }

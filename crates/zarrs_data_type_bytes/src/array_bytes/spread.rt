@@ -118,9 +118,7 @@ impl<'a> ArrayBytes<'a> {
             return ArrayBytes::missing(alloc, data_type, mask.len());
         }
         if let ArrayBytes::Fixed(cells) = self {
-            let Some(size) = data_type.element_size() else {
-                unreachable!()
-            };
+            let size = data_type.element_size().unwrap();
             let spread = spread_fixed(alloc, cells.as_slice(), size, mask)?;
             return Ok(ArrayBytes::Fixed(CowSlice::Owned(spread)));
         }

@@ -55,9 +55,7 @@ impl Element for bool {
         data_type: &DataType,
         elements: &'a [bool],
     ) -> Result<ArrayBytes<'a>, ElementError> {
-        if !<bool as Element>::serves(data_type) {
-            return Err(ElementError::IncompatibleElementType);
-        }
+        bool::validate_data_type(data_type)?;
         let bytes = flag_bytes(alloc, elements)?;
         Ok(ArrayBytes::Fixed(CowSlice::Owned(bytes)))
     }
@@ -78,9 +76,7 @@ impl ElementOwned for bool {
         data_type: &DataType,
         array_bytes: ArrayBytes<'_>,
     ) -> Result<Vec<bool>, ElementError> {
-        if !<bool as Element>::serves(data_type) {
-            return Err(ElementError::IncompatibleElementType);
-        }
+        bool::validate_data_type(data_type)?;
         let ArrayBytes::Fixed(bytes) = array_bytes else {
             return Err(ElementError::IncompatibleElementType);
         };

@@ -19,7 +19,7 @@ use std::borrow::CowSlice;
 use std::mem;
 use zarrs_data_type_bytes::ArrayBytes;
 use zarrs_data_type_kinds::DataType;
-use zarrs_data_type_numbers::WholeNumber;
+use zarrs_data_type_numbers::{NumberBytes, WholeNumber};
 
 /// A whole number that is the value of a cell.
 pub trait Number: WholeNumber {
@@ -36,9 +36,9 @@ pub trait Number: WholeNumber {
     /// `AllocError`: out of memory.
     fn lend_bytes<'a>(alloc: Global, numbers: &'a [Self]) -> Result<CowSlice<'a, u8>, AllocError>
         ensures { IfOk result (λ made. cow_slice_items made
-            ≡ flat_map Self.le_bytes numbers.now) }
+            ≡ flat_map Self.Bytes.le_bytes numbers.now) }
     {
-        Ok(CowSlice::Owned(Self::to_bytes(alloc, numbers)?))
+        Ok(CowSlice::Owned(Self::Bytes::to_bytes(alloc, numbers)?))
     }
 
     /// The bytes of the numbers. Numbers that are bytes are taken, not copied.
@@ -47,9 +47,9 @@ pub trait Number: WholeNumber {
     /// `AllocError`: out of memory.
     fn take_bytes(alloc: Global, numbers: &mut Vec<Self>) -> Result<Vec<u8>, AllocError>
         ensures { IfOk result (λ made. made.items
-            ≡ flat_map Self.le_bytes numbers.old.items) }
+            ≡ flat_map Self.Bytes.le_bytes numbers.old.items) }
     {
-        Self::to_bytes(alloc, numbers.as_slice())
+        Self::Bytes::to_bytes(alloc, numbers.as_slice())
     }
 
     /// The numbers of the bytes. Bytes that are owned become numbers without a copy.
@@ -57,15 +57,15 @@ pub trait Number: WholeNumber {
     /// # Errors
     /// `AllocError`: out of memory.
     fn own_bytes(alloc: Global, bytes: CowSlice<'_, u8>) -> Result<Vec<Self>, AllocError>
-        requires { length (cow_slice_items bytes) % Self.size ≡ 0 }
-        ensures { IfOk result (λ made. flat_map Self.le_bytes made.items
+        requires { length (cow_slice_items bytes) % Self.Bytes.size ≡ 0 }
+        ensures { IfOk result (λ made. flat_map Self.Bytes.le_bytes made.items
             ≡ cow_slice_items bytes.entry) }
     {
-        Self::from_bytes(alloc, bytes.as_slice())
+        Self::Bytes::from_bytes(alloc, bytes.as_slice())
     }
 
     // Such cells have the size of the number.
-    ghost number_size: { element_size number_kind ≡ Some Self.WholeNumber.size };
+    ghost number_size: { element_size number_kind ≡ Some Self.Bytes.size };
 
     // They are any bytes of this size.
     ghost number_any: { takes_any_bytes number_kind ≡ true };
@@ -180,7 +180,7 @@ impl Number for i64 {
 }
 
 impl<T: Number> Element for T {
-    ghost cell = { λ x. bytes (T.WholeNumber.le_bytes x) };
+    ghost cell = { λ x. bytes (T.Bytes.le_bytes x) };
 
     ghost serves = { λ k. kind_eq k T.number_kind };
 
@@ -193,9 +193,7 @@ impl<T: Number> Element for T {
         data_type: &DataType,
         elements: &'a [T],
     ) -> Result<ArrayBytes<'a>, ElementError> {
-        if !T::is_number_of(data_type) {
-            return Err(ElementError::IncompatibleElementType);
-        }
+        T::validate_data_type(data_type)?;
         Ok(ArrayBytes::Fixed(T::lend_bytes(alloc, elements)?))
     }
 
@@ -204,9 +202,7 @@ impl<T: Number> Element for T {
         data_type: &DataType,
         elements: &mut Vec<T>,
     ) -> Result<ArrayBytes<'static>, ElementError> {
-        if !T::is_number_of(data_type) {
-            return Err(ElementError::IncompatibleElementType);
-        }
+        T::validate_data_type(data_type)?;
         Ok(ArrayBytes::new_flen(T::take_bytes(alloc, elements)?))
     }
 
@@ -224,12 +220,7 @@ impl<T: Number> Element for T {
         data_type: &DataType,
         options: &[Option<T>],
     ) -> Result<ArrayBytes<'static>, ElementError> {
-        let Some(inner) = data_type.optional_inner() else {
-            return Err(ElementError::IncompatibleElementType);
-        };
-        if !T::is_number_of(inner) {
-            return Err(ElementError::IncompatibleElementType);
-        }
+        Option::<T>::validate_data_type(data_type)?;
         Ok(number_option_data(alloc, data_type, options)?)
     }
 }
@@ -240,9 +231,7 @@ impl<T: Number> ElementOwned for T {
         data_type: &DataType,
         array_bytes: ArrayBytes<'_>,
     ) -> Result<Vec<T>, ElementError> {
-        if !T::is_number_of(data_type) {
-            return Err(ElementError::IncompatibleElementType);
-        }
+        T::validate_data_type(data_type)?;
         let ArrayBytes::Fixed(bytes) = array_bytes else {
             return Err(ElementError::IncompatibleElementType);
         };
@@ -258,12 +247,7 @@ impl<T: Number> ElementOwned for T {
         data_type: &DataType,
         array_bytes: ArrayBytes<'_>,
     ) -> Result<Vec<Option<T>>, ElementError> {
-        let Some(inner) = data_type.optional_inner() else {
-            return Err(ElementError::IncompatibleElementType);
-        };
-        if !T::is_number_of(inner) {
-            return Err(ElementError::IncompatibleElementType);
-        }
+        Option::<T>::validate_data_type(data_type)?;
         number_options(alloc, data_type, &array_bytes)
     }
 }
@@ -285,13 +269,13 @@ pub(super) fn number_option_data<T: WholeNumber>(
     data_type: &DataType,
     options: &[Option<T>],
 ) -> Result<ArrayBytes<'static>, AllocError>
-    requires { HoldsOptions (kind data_type.now) T.size }
+    requires { HoldsOptions (kind data_type.now) T.Bytes.size }
     ensures { IfOk result (λ made. cells (kind data_type.now) (data_of made)
-        ≡ Some (map (option_cell (λ x. bytes (T.le_bytes x))) options.now)) }
+        ≡ Some (map (option_cell (λ x. bytes (T.Bytes.le_bytes x))) options.now)) }
 {
     let _ = data_type;
     let flags = option_flags(alloc, options)?;
-    let bytes = T::options_to_bytes(alloc, options)?;
+    let bytes = T::Bytes::options_to_bytes(alloc, options)?;
     let data = ArrayBytes::new_flen(bytes);
     data.with_optional_mask(alloc, CowSlice::Owned(flags))
 }
@@ -302,9 +286,9 @@ pub(super) fn number_options<T: WholeNumber>(
     data_type: &DataType,
     array_bytes: &ArrayBytes<'_>,
 ) -> Result<Vec<Option<T>>, ElementError>
-    requires { HoldsOptions (kind data_type.now) T.size }
+    requires { HoldsOptions (kind data_type.now) T.Bytes.size }
     ensures cells { IfOk result (λ options. cells (kind data_type.now) (data_of array_bytes.now)
-        ≡ Some (map (option_cell (λ x. bytes (T.le_bytes x))) options.items)) }
+        ≡ Some (map (option_cell (λ x. bytes (T.Bytes.le_bytes x))) options.items)) }
     ensures refused { IfErr result (RefusesCells true (cells (kind data_type.now)
         (data_of array_bytes.now))) }
 {
@@ -316,7 +300,11 @@ pub(super) fn number_options<T: WholeNumber>(
         return Err(ElementError::IncompatibleElementType);
     }
     match optional.data() {
-        ArrayBytes::Fixed(bytes) => Ok(T::options_from_bytes(alloc, flags, bytes.as_slice())?),
+        ArrayBytes::Fixed(bytes) => Ok(T::Bytes::options_from_bytes(
+            alloc,
+            flags,
+            bytes.as_slice(),
+        )?),
         _ => Err(ElementError::IncompatibleElementType),
     }
 }

@@ -1,79 +1,59 @@
 //! Texts and byte strings as cells.
-ghost use Rattle.std.specs.Prelude.{◌≡◌, [], ◌∷◌, map, true, Some, None, option_map, string_bytes};
-ghost use Rattle.std.specs.Prelude.{if◌then◌else◌, IfOk};
+ghost use Rattle.std.specs.Prelude.{◌≡◌, map, true, Some, None, option_map, string_bytes};
+ghost use Rattle.std.specs.Prelude.{if◌then◌else◌, IfErr, IfOk, OnOk};
 ghost use Rattle.std.specs.List.{list_all};
 ghost use Rattle.std.specs.Str.{is_utf8};
+ghost use Rattle.zarrs_data_type_bytes.specs.ArrayData.{data_of};
+ghost use Rattle.zarrs_data_type_bytes.specs.Cells.{cells};
+ghost use Rattle.zarrs_data_type_elements.specs.Elements.{RefusesElement};
 ghost use Rattle.zarrs_data_type_kinds.specs.Cell.{bytes};
 ghost use Rattle.zarrs_data_type_kinds.specs.Kind.{kind};
 ghost use Rattle.zarrs_data_type_kinds.specs.Kind as type;
 ghost use Rattle.zarrs_data_type_kinds.specs.Same.{kind_eq};
 
-use super::copies::copied;
 use super::{Element, ElementOwned};
 use crate::error::ElementError;
 use std::alloc::{AllocError, Global};
+use std::convert::{AsSlice, AsStr};
 use zarrs_data_type_bytes::{ArrayBytes, ArrayBytesVariableLength, VariableLengthBuilder};
 use zarrs_data_type_kinds::DataType;
 
-/// The texts one after another.
-fn joined_strings(alloc: Global, texts: &[String]) -> Result<VariableLengthBuilder, AllocError>
-    ensures strings { IfOk result (λ made. made ≡ map string_bytes texts.now) }
-    ensures texts { IfOk result (λ made. list_all (λ s. is_utf8 s) made ≡ true) }
-{
-    let mut strings = VariableLengthBuilder::with_capacity(alloc, texts.len(), 0)?;
-    for text in texts {
-        strings.push(text.as_str().as_bytes())?;
-    }
-    Ok(strings)
-}
-
-/// The lent texts one after another.
-fn joined_texts(alloc: Global, texts: &[&str]) -> Result<VariableLengthBuilder, AllocError>
-    ensures strings { IfOk result (λ made. made ≡ map (λ text. text.now) texts.now) }
-    ensures texts { IfOk result (λ made. list_all (λ s. is_utf8 s) made ≡ true) }
-{
-    let mut strings = VariableLengthBuilder::with_capacity(alloc, texts.len(), 0)?;
-    for text in texts {
-        strings.push(text.as_bytes())?;
-    }
-    Ok(strings)
-}
-
-/// The texts one after another, which are lent one by one.
-fn joined_lent_strings(
+/// Data whose cells are these texts.
+fn text_data<S: AsStr>(
     alloc: Global,
-    texts: &[&String],
-) -> Result<VariableLengthBuilder, AllocError>
-    ensures strings { IfOk result (λ made. made ≡ map (λ text. string_bytes text.now) texts.now) }
-    ensures texts { IfOk result (λ made. list_all (λ s. is_utf8 s) made ≡ true) }
+    data_type: &DataType,
+    texts: &[S],
+) -> Result<ArrayBytes<'static>, ElementError>
+    ensures cells { IfOk result (λ made. cells (kind data_type.now) (data_of made)
+        ≡ Some (map (λ text. bytes (S.text text)) texts.now)) }
+    ensures served { OnOk result (kind_eq (kind data_type.now) type.string ≡ true) }
+    ensures refused { IfErr result (RefusesElement (kind_eq (kind data_type.now) type.string)) }
 {
+    String::validate_data_type(data_type)?;
     let mut strings = VariableLengthBuilder::with_capacity(alloc, texts.len(), 0)?;
     for text in texts {
         strings.push(text.as_str().as_bytes())?;
     }
-    Ok(strings)
+    Ok(ArrayBytes::Variable(strings.finish()))
 }
 
-/// The byte strings one after another.
-fn joined_bytes(alloc: Global, lists: &[Vec<u8>]) -> Result<VariableLengthBuilder, AllocError>
-    ensures { IfOk result (λ made. made ≡ map (λ b. b.items) lists.now) }
+/// Data whose cells are these byte strings.
+fn bytes_data<S: AsSlice<u8>>(
+    alloc: Global,
+    data_type: &DataType,
+    lists: &[S],
+) -> Result<ArrayBytes<'static>, ElementError>
+    ensures cells { IfOk result (λ made. cells (kind data_type.now) (data_of made)
+        ≡ Some (map (λ list. bytes (S.items list)) lists.now)) }
+    ensures served { OnOk result (kind_eq (kind data_type.now) type.bytes ≡ true) }
+    ensures refused { IfErr result (RefusesElement (kind_eq (kind data_type.now) type.bytes)) }
 {
+    Vec::<u8>::validate_data_type(data_type)?;
     let mut strings = VariableLengthBuilder::with_capacity(alloc, lists.len(), 0)?;
-    for bytes in lists {
-        strings.push(bytes.as_slice())?;
+    for list in lists {
+        strings.push(list.as_slice())?;
     }
-    Ok(strings)
-}
-
-/// The byte strings one after another, which are lent one by one.
-fn joined_lent_bytes(alloc: Global, lists: &[&Vec<u8>]) -> Result<VariableLengthBuilder, AllocError>
-    ensures { IfOk result (λ made. made ≡ map (λ b. b.now.items) lists.now) }
-{
-    let mut strings = VariableLengthBuilder::with_capacity(alloc, lists.len(), 0)?;
-    for bytes in lists {
-        strings.push(bytes.as_slice())?;
-    }
-    Ok(strings)
+    Ok(ArrayBytes::Variable(strings.finish()))
 }
 
 /// The texts, if each byte string is one.
@@ -122,11 +102,7 @@ impl Element for String {
         data_type: &DataType,
         elements: &'a [String],
     ) -> Result<ArrayBytes<'a>, ElementError> {
-        if !<String as Element>::serves(data_type) {
-            return Err(ElementError::IncompatibleElementType);
-        }
-        let strings = joined_strings(alloc, elements)?;
-        Ok(ArrayBytes::Variable(strings.finish()))
+        text_data(alloc, data_type, elements)
     }
 
     fn lent_to_array_bytes(
@@ -134,11 +110,7 @@ impl Element for String {
         data_type: &DataType,
         elements: &[&String],
     ) -> Result<ArrayBytes<'static>, ElementError> {
-        if !<String as Element>::serves(data_type) {
-            return Err(ElementError::IncompatibleElementType);
-        }
-        let strings = joined_lent_strings(alloc, elements)?;
-        Ok(ArrayBytes::Variable(strings.finish()))
+        text_data(alloc, data_type, elements)
     }
 }
 
@@ -148,9 +120,7 @@ impl ElementOwned for String {
         data_type: &DataType,
         array_bytes: ArrayBytes<'_>,
     ) -> Result<Vec<String>, ElementError> {
-        if !<String as Element>::serves(data_type) {
-            return Err(ElementError::IncompatibleElementType);
-        }
+        String::validate_data_type(data_type)?;
         let ArrayBytes::Variable(strings) = array_bytes else {
             return Err(ElementError::IncompatibleElementType);
         };
@@ -177,11 +147,7 @@ impl Element for &str {
         data_type: &DataType,
         elements: &'a [&str],
     ) -> Result<ArrayBytes<'a>, ElementError> {
-        if !<&str as Element>::serves(data_type) {
-            return Err(ElementError::IncompatibleElementType);
-        }
-        let strings = joined_texts(alloc, elements)?;
-        Ok(ArrayBytes::Variable(strings.finish()))
+        text_data(alloc, data_type, elements)
     }
 
     fn lent_to_array_bytes(
@@ -189,8 +155,7 @@ impl Element for &str {
         data_type: &DataType,
         elements: &[&&str],
     ) -> Result<ArrayBytes<'static>, ElementError> {
-        let mut texts = copied(alloc, elements)?;
-        <&str as Element>::take_array_bytes(alloc, data_type, &mut texts)
+        text_data(alloc, data_type, elements)
     }
 }
 
@@ -208,11 +173,7 @@ impl Element for Vec<u8> {
         data_type: &DataType,
         elements: &'a [Vec<u8>],
     ) -> Result<ArrayBytes<'a>, ElementError> {
-        if !<Vec<u8> as Element>::serves(data_type) {
-            return Err(ElementError::IncompatibleElementType);
-        }
-        let strings = joined_bytes(alloc, elements)?;
-        Ok(ArrayBytes::Variable(strings.finish()))
+        bytes_data(alloc, data_type, elements)
     }
 
     fn lent_to_array_bytes(
@@ -220,11 +181,7 @@ impl Element for Vec<u8> {
         data_type: &DataType,
         elements: &[&Vec<u8>],
     ) -> Result<ArrayBytes<'static>, ElementError> {
-        if !<Vec<u8> as Element>::serves(data_type) {
-            return Err(ElementError::IncompatibleElementType);
-        }
-        let strings = joined_lent_bytes(alloc, elements)?;
-        Ok(ArrayBytes::Variable(strings.finish()))
+        bytes_data(alloc, data_type, elements)
     }
 }
 
@@ -234,9 +191,7 @@ impl ElementOwned for Vec<u8> {
         data_type: &DataType,
         array_bytes: ArrayBytes<'_>,
     ) -> Result<Vec<Vec<u8>>, ElementError> {
-        if !<Vec<u8> as Element>::serves(data_type) {
-            return Err(ElementError::IncompatibleElementType);
-        }
+        Vec::<u8>::validate_data_type(data_type)?;
         let ArrayBytes::Variable(strings) = array_bytes else {
             return Err(ElementError::IncompatibleElementType);
         };

@@ -17,18 +17,18 @@ returns-then-is_empty c =
     nothing_filled (length c.args.piece.now) (box_of region) place.shape.now (repeat (position_count region.shape.items) c.args.piece.now) c.args.target.now
     (λ position. in_box-empty region.start.items region.shape.items position found.0 region.same_length found.1 found.2)
 
-pub fill_rows-requires-clause-fits : goal.fill_rows-requires-clause-fits
-fill_rows-requires-clause-fits c =
+pub fill_blocks-requires-clause-fits : goal.fill_blocks-requires-clause-fits
+fill_blocks-requires-clause-fits c =
     let place = c.args.place.now in
     let region = place.region.now in
-    let extents : c.shape.result.now ≡ region.shape.items = search rules in
+    let extents : c.shape-extents.result.now ≡ region.shape.items = search rules in
     let start : c.start.result.now ≡ region.start.items = search rules in
     rw (extents, start) (fits_parent region.start.items region.shape.items place.shape.now region.same_length c.requires.inside.same_length c.requires.inside.ends)
 
-pub fill_rows-requires-clause-some : goal.fill_rows-requires-clause-some
-fill_rows-requires-clause-some c =
+pub fill_blocks-requires-clause-some : goal.fill_blocks-requires-clause-some
+fill_blocks-requires-clause-some c =
     let region = c.args.place.now.region.now in
-    let extents : c.shape.result.now ≡ region.shape.items = search rules in
+    let extents : c.shape-extents.result.now ≡ region.shape.items = search rules in
     let all : AllSome region.shape.items = λ j below z. iff_false c.is_empty.ensures c.if-is_empty.false (j, below, z) in
     rw extents (count_some region.shape.items all)
 
@@ -36,7 +36,7 @@ pub returns : goal.returns
 returns c =
     let place = c.args.place.now in
     let region = place.region.now in
-    let extents : c.shape.result.now ≡ region.shape.items = search rules in
+    let extents : c.shape-extents.result.now ≡ region.shape.items = search rules in
     let start : c.start.result.now ≡ region.start.items = search rules in
-    box_filled (length c.args.piece.now) (box_of region) place.shape.now c.args.piece.now c.args.target.now c.fill_rows.new.target refl region.same_length
-    (rw (extents, start) at c.fill_rows.ensures)
+    box_filled (length c.args.piece.now) (box_of region) place.shape.now c.args.piece.now c.args.target.now c.fill_blocks.new.target refl region.same_length
+    (rw (extents, start) at c.fill_blocks.ensures)

@@ -10,7 +10,7 @@ use Rattle.zarrs_data_type_bytes.proofs.Parts.{extracts-variable}
 use Rattle.zarrs_data_type_bytes.proofs.array_bytes.ArrayBytes.+extract.Goals as goal
 
 pub extract_bytes-requires-clause-positive : goal.extract_bytes-requires-clause-positive
-extract_bytes-requires-clause-positive t c = element_size-positive c.args.data_type.now c.in-Some.size (sym c.element_size.ensures ∙ c.in-Some.is)
+extract_bytes-requires-clause-positive t c = element_size-positive c.args.data_type.now c.unwrap-size.result (sym c.element_size.ensures ∙ c.unwrap-size.ensures)
 
 pub returns-in_ok-extract_strings-in-Variable : goal.returns-in_ok-extract_strings-in-Variable
 returns-in_ok-extract_strings-in-Variable t c =

@@ -23,33 +23,33 @@ pub returns-in-Variable : goal.returns-in-Variable
 returns-in-Variable t c =
     rw c.in-Variable.is (filled-variable (kind c.args.data_type.now) c.args.fill.now c.requires.filled c.in-Variable.strings c.are_all_strings.result c.are_all_strings.ensures)
 
-pub returns-in-None-inner_fill : goal.returns-in-None-inner_fill
-returns-in-None-inner_fill t c =
+pub returns-in-None : goal.returns-in-None
+returns-in-None t c =
     let k = kind c.args.data_type.now in
-    let u = kind c.in-Some.inner.now in
-    let is_inner : inner_of k ≡ Some u = sym c.optional_inner.ensures ∙ ap (option_map (λ inner. kind inner.now)) c.in-Some.is in
-    let front : inner_fill c.args.fill.now ≡ None = sym c.inner_fill.ensures ∙ ap (option_map (λ front. front.now)) c.in-None-inner_fill.is in
-    let held = c.as_slice-in-None-inner_fill.ensures in
+    let u = kind c.unwrap-inner.result.now in
+    let is_inner : inner_of k ≡ Some u = sym c.optional_inner.ensures ∙ ap (option_map (λ inner. kind inner.now)) c.unwrap-inner.ensures in
+    let front : inner_fill c.args.fill.now ≡ None = sym c.inner_fill.ensures ∙ ap (option_map (λ front. front.now)) c.in-None.is in
+    let held = c.as_slice-in-None.ensures in
     rw c.in-Optional.is (filled-none k c.args.fill.now c.requires.filled u is_inner c.in-Optional.optional.mask (data_of c.in-Optional.optional.data.value) held.flags
     c.are_all.result front (rw (sym held.bytes) c.are_all.ensures))
 
 pub returns-then-are_all : goal.returns-then-are_all
 returns-then-are_all t c =
     let k = kind c.args.data_type.now in
-    let u = kind c.in-Some.inner.now in
-    let is_inner : inner_of k ≡ Some u = sym c.optional_inner.ensures ∙ ap (option_map (λ inner. kind inner.now)) c.in-Some.is in
-    let front : inner_fill c.args.fill.now ≡ Some c.in-Some-inner_fill.front.now = sym c.inner_fill.ensures ∙ ap (option_map (λ front. front.now)) c.in-Some-inner_fill.is in
-    let held = c.as_slice-in-Some-inner_fill.ensures in
-    let ones = sym c.are_all-in-Some-inner_fill.ensures ∙ c.if-are_all.true in
+    let u = kind c.unwrap-inner.result.now in
+    let is_inner : inner_of k ≡ Some u = sym c.optional_inner.ensures ∙ ap (option_map (λ inner. kind inner.now)) c.unwrap-inner.ensures in
+    let front : inner_fill c.args.fill.now ≡ Some c.in-Some.front.now = sym c.inner_fill.ensures ∙ ap (option_map (λ front. front.now)) c.in-Some.is in
+    let held = c.as_slice-in-Some.ensures in
+    let ones = sym c.are_all-in-Some.ensures ∙ c.if-are_all.true in
     rw c.in-Optional.is (filled-some k c.args.fill.now c.requires.filled u is_inner c.in-Optional.optional.mask (data_of c.in-Optional.optional.data.value) held.flags
-    c.is_filled.result c.in-Some-inner_fill.front.now front (rw (sym held.bytes) ones) (rw (sym c.deref.ensures) c.is_filled.ensures))
+    c.is_filled.result c.in-Some.front.now front (rw (sym held.bytes) ones) (rw (sym c.deref.ensures) c.is_filled.ensures))
 
 pub returns-else-are_all : goal.returns-else-are_all
 returns-else-are_all t c =
     let k = kind c.args.data_type.now in
-    let u = kind c.in-Some.inner.now in
-    let is_inner : inner_of k ≡ Some u = sym c.optional_inner.ensures ∙ ap (option_map (λ inner. kind inner.now)) c.in-Some.is in
-    let front : inner_fill c.args.fill.now ≡ Some c.in-Some-inner_fill.front.now = sym c.inner_fill.ensures ∙ ap (option_map (λ front. front.now)) c.in-Some-inner_fill.is in
-    let held = c.as_slice-in-Some-inner_fill.ensures in
+    let u = kind c.unwrap-inner.result.now in
+    let is_inner : inner_of k ≡ Some u = sym c.optional_inner.ensures ∙ ap (option_map (λ inner. kind inner.now)) c.unwrap-inner.ensures in
+    let front : inner_fill c.args.fill.now ≡ Some c.in-Some.front.now = sym c.inner_fill.ensures ∙ ap (option_map (λ front. front.now)) c.in-Some.is in
+    let held = c.as_slice-in-Some.ensures in
     rw c.in-Optional.is (filled-not_some k c.args.fill.now c.requires.filled u is_inner c.in-Optional.optional.mask (data_of c.in-Optional.optional.data.value) held.flags
-    c.are_all-in-Some-inner_fill.result c.in-Some-inner_fill.front.now front (rw (sym held.bytes) c.are_all-in-Some-inner_fill.ensures) c.if-are_all.false)
+    c.are_all-in-Some.result c.in-Some.front.now front (rw (sym held.bytes) c.are_all-in-Some.ensures) c.if-are_all.false)

@@ -22,22 +22,22 @@ pub spread_fixed-requires-clause-cells : goal.spread_fixed-requires-clause-cells
 spread_fixed-requires-clause-cells c =
     let k = kind c.args.data_type.now in
     let ones = count_by flag_set c.args.mask.now in
-    let size : element_size k ≡ Some c.in-Some.size = sym c.element_size.ensures ∙ c.in-Some.is in
+    let size : element_size k ≡ Some c.unwrap-size.result = sym c.element_size.ensures ∙ c.unwrap-size.ensures in
     let same : data_of c.args.self.now ≡ fixed c.as_slice.result.now = ap data_of c.in-Fixed.is ∙ ap fixed (sym c.as_slice.ensures.value) in
-    length-fixed k c.in-Some.size size c.as_slice.result.now ones (subst (λ d. HasCells k d ones) same c.requires.present)
+    length-fixed k c.unwrap-size.result size c.as_slice.result.now ones (subst (λ d. HasCells k d ones) same c.requires.present)
 
 pub spread_fixed-requires-clause-size : goal.spread_fixed-requires-clause-size
 spread_fixed-requires-clause-size c =
     let k = kind c.args.data_type.now in
-    let size : element_size k ≡ Some c.in-Some.size = sym c.element_size.ensures ∙ c.in-Some.is in
-    subst (λ n. length c.args.mask.now * n < 2 ^ 64) (cell_size-element k c.in-Some.size size) c.requires.size
+    let size : element_size k ≡ Some c.unwrap-size.result = sym c.element_size.ensures ∙ c.unwrap-size.ensures in
+    subst (λ n. length c.args.mask.now * n < 2 ^ 64) (cell_size-element k c.unwrap-size.result size) c.requires.size
 
 pub returns-in-Fixed-clause-kind : goal.returns-in-Fixed-clause-kind
 returns-in-Fixed-clause-kind c =
     let k = kind c.args.data_type.now in
     let mask = c.args.mask.now in
-    let size : element_size k ≡ Some c.in-Some.size = sym c.element_size.ensures ∙ c.in-Some.is in
-    fitting-fixed k c.in-Some.size c.in_ok-spread.spread.items (length mask) size (c.in_ok-spread.ensures.len ∙ ap (λ m. m * c.in-Some.size) (length-ranks mask))
+    let size : element_size k ≡ Some c.unwrap-size.result = sym c.element_size.ensures ∙ c.unwrap-size.ensures in
+    fitting-fixed k c.unwrap-size.result c.in_ok-spread.spread.items (length mask) size (c.in_ok-spread.ensures.len ∙ ap (λ m. m * c.unwrap-size.result) (length-ranks mask))
 
 pub returns-in-Fixed-clause-cells : goal.returns-in-Fixed-clause-cells
 returns-in-Fixed-clause-cells c = λ n fit some_there.
@@ -45,9 +45,9 @@ returns-in-Fixed-clause-cells c = λ n fit some_there.
     let mask = c.args.mask.now in
     let ranks = ranks_set mask (length mask) in
     let items = c.in_ok-spread.spread.items in
-    let size : element_size k ≡ Some c.in-Some.size = sym c.element_size.ensures ∙ c.in-Some.is in
+    let size : element_size k ≡ Some c.unwrap-size.result = sym c.element_size.ensures ∙ c.unwrap-size.ensures in
     let same : data_of c.args.self.now ≡ fixed c.as_slice.result.now = ap data_of c.in-Fixed.is ∙ ap fixed (sym c.as_slice.ensures.value) in
-    subst (λ d. IsSelection k (fixed items) d ranks) (sym same) (IsSelection-fixed k c.in-Some.size c.as_slice.result.now items ranks size c.in_ok-spread.ensures)
+    subst (λ d. IsSelection k (fixed items) d ranks) (sym same) (IsSelection-fixed k c.unwrap-size.result c.as_slice.result.now items ranks size c.in_ok-spread.ensures)
 
 pub select-requires : goal.select-requires
 select-requires c =

@@ -15,10 +15,10 @@ returns-in-Fixed c =
     let mask = c.args.self.now.mask in
     let d = data_of c.args.self.now.data.value in
     let bytes = c.as_slice.result.now in
-    let size = c.in-Some.size in
+    let size = c.unwrap-size.result in
     let items = c.in_ok-made.made.items in
     let places = c.in_ok-made.ensures.0 in
-    let sized : element_size k ≡ Some size = sym c.element_size.ensures ∙ c.in-Some.is in
+    let sized : element_size k ≡ Some size = sym c.element_size.ensures ∙ c.unwrap-size.ensures in
     let held : d ≡ fixed bytes = ap data_of (sym c.deref.ensures ∙ c.in-Fixed.is) ∙ ap fixed (sym c.as_slice.ensures.value) in
     let are = subst (λ m. ArePlacesSet m places) c.as_slice-in-Fixed.ensures.bytes c.in_ok-made.ensures.1 in
     cells-present c.args.inner.now mask d (fixed items) places (places_are mask places are)

@@ -22,4 +22,4 @@ returns g c =
     ∙ ap (λ d. cells k (optional c.in_ok-flags.flags.items d)) c.new_flen-data.ensures
     ∙ ap (λ m. cells k (optional m (fixed c.in_ok-bytes.bytes.items))) c.in_ok-flags.ensures
     ∙ ap (λ b. cells k (optional (map option_flag os) (fixed b))) c.in_ok-bytes.ensures
-    ∙ cells-options_written g.T.WholeNumber.le_bytes t g.T.WholeNumber.size os c.requires g.T.WholeNumber.sized) c.with_optional_mask.ensures
+    ∙ cells-options_written g.T.Bytes.NumberBytes.le_bytes t g.T.Bytes.NumberBytes.size os c.requires g.T.Bytes.NumberBytes.sized) c.with_optional_mask.ensures

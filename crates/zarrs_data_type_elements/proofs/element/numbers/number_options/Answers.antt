@@ -21,7 +21,7 @@ pub returns-in_ok-options_from_bytes-in-Fixed-clause-cells : goal.returns-in_ok-
 returns-in_ok-options_from_bytes-in-Fixed-clause-cells g c =
     let t = c.args.data_type.now in
     let k = kind t in
-    let size = g.T.WholeNumber.size in
+    let size = g.T.Bytes.NumberBytes.size in
     let held = c.in-Optional.optional in
     let flags = c.mask-flags.result.now in
     let b = c.as_slice.result.now in
@@ -33,4 +33,4 @@ returns-in_ok-options_from_bytes-in-Fixed-clause-cells g c =
     let has : HasCells k (optional flags (fixed b)) (length flags) = subst (λ d. HasCells k d (length flags)) whole (c.validate.ensures.0 c.if-not-validate.false) in
     let count : length flags ≡ length options = ap length (sym made.flags) ∙ length-map options option_flag in
     ap (cells k) whole
-    ∙ cells-options g.T.WholeNumber.le_bytes t size flags b options c.requires made.flags (options-held k size (length flags) flags b c.requires has ∙ ap (λ n. n * size) count) made.numbers
+    ∙ cells-options g.T.Bytes.NumberBytes.le_bytes t size flags b options c.requires made.flags (options-held k size (length flags) flags b c.requires has ∙ ap (λ n. n * size) count) made.numbers

@@ -9,5 +9,5 @@ pub returns-clause-cells : goal.returns-clause-cells
 returns-clause-cells g c =
     let t = c.args.data_type.now in
     ap (λ b. cells (kind t) (fixed b)) c.in_ok-lend_bytes.ensures
-    ∙ cells-numbers g.T.WholeNumber.le_bytes t g.T.Number.number_kind g.T.WholeNumber.size c.args.elements.now
-    (sym c.is_number_of.ensures ∙ c.if-not-is_number_of.false) g.met.T.Number.number_size g.met.T.Number.number_any g.T.WholeNumber.sized
+    ∙ cells-numbers g.T.Bytes.NumberBytes.le_bytes t g.T.Number.number_kind g.T.Bytes.NumberBytes.size c.args.elements.now
+    c.in_ok-validate_data_type.ensures.served g.met.T.Number.number_size g.met.T.Number.number_any g.T.Bytes.NumberBytes.sized

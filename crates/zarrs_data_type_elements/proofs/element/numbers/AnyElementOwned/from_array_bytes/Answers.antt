@@ -14,5 +14,5 @@ returns-clause-cells g c =
     let t = c.args.data_type.now in
     ap (λ d. cells (kind t) (data_of d)) c.in-Fixed.is
     ∙ ap (λ b. cells (kind t) (fixed b)) (sym c.in_ok-own_bytes.ensures)
-    ∙ cells-numbers g.T.WholeNumber.le_bytes t g.T.Number.number_kind g.T.WholeNumber.size c.in_ok-own_bytes.field-0.items
-    (sym c.is_number_of.ensures ∙ c.if-not-is_number_of.false) g.met.T.Number.number_size g.met.T.Number.number_any g.T.WholeNumber.sized
+    ∙ cells-numbers g.T.Bytes.NumberBytes.le_bytes t g.T.Number.number_kind g.T.Bytes.NumberBytes.size c.in_ok-own_bytes.field-0.items
+    c.in_ok-validate_data_type.ensures.served g.met.T.Number.number_size g.met.T.Number.number_any g.T.Bytes.NumberBytes.sized
