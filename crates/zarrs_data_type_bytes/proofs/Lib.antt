@@ -12,7 +12,11 @@ pub mod Spread
 pub mod Validity
 mod Periods
 pub mod ByteStrings
-mod Numbers
+mod NumberCells
+mod Placed
+mod Joins
+mod SharedBoxes
+mod Cuts
 mod Rows
 mod BoxRows
 mod AsciiTexts

@@ -22,7 +22,8 @@ use Rattle.zarrs_data_type_kinds.proofs.Sizes.{element_size-positive}
 use Rattle.zarrs_data_type_bytes.specs.ArrayData.{ArrayData, fixed, variable}
 use Rattle.zarrs_data_type_bytes.specs.Cells.{fits, cell_at, cells, HasCells}
 use Rattle.zarrs_data_type_bytes.specs.Parts.{TakesCells, ExtractsCells, TakesAt, ExtractsAt, TakesEach, ExtractsEach}
-use Rattle.zarrs_data_type_bytes.specs.StringParts.{string_at, string_taken}
+use Rattle.zarrs_data_type_bytes.specs.Places.{string_of}
+use Rattle.zarrs_data_type_bytes.specs.StringParts.{string_at}
 use Rattle.zarrs_subset.proofs.Inside.{holds_inside}
 use Rattle.zarrs_data_type_bytes.proofs.Cells.{AllValues, cells-from, cells-parts, HasCells-cells, HasCells-parts, fitting-fixed}
 use Rattle.zarrs_data_type_bytes.proofs.Filled.{cell_at-fixed, fits-variable}
@@ -181,14 +182,15 @@ fitting-variable k f box made long is is_made =
     let count : length made ≡ position_count box.shape = ap length is_made ∙ length-map (positions box) f ∙ length-positions box.start box.shape long in
     and_from (is_variable k) (eqb (length made) (position_count box.shape)) is (eq-eqb (length made) (position_count box.shape) count)
 
-pub takes-variable : (k : Kind) (box other : Box) (part old new : List (List ℕ)) (n : ℕ) → IsLong box → fits k (variable old) n ≡ true
-    → new ≡ map (string_taken box other part old) (positions box) → TakesEach k box other (variable part) (variable old) (variable new)
-takes-variable k box other part old new n long fit is = record {
-  has_kind = fitting-variable k (string_taken box other part old) box new long (fits-variable k old n fit).0 is;
-  each_cell = λ position holds.
-      bytes_cond (in_box other position) (slice_index_or new (place_in box position) []) (string_at other part position) (string_at box old position)
-      (ap (λ l. slice_index_or l (place_in box position) []) is ∙ made_at (string_taken box other part old) box position long holds);
-}
+pub takes-variable : (k : Kind) (box other : Box) (part old new : List (List ℕ)) → fits k (variable old) (position_count box.shape) ≡ true → length new ≡ position_count box.shape
+    → TakesAt box other (string_of part) (string_of old) (string_of new) → TakesEach k box other (variable part) (variable old) (variable new)
+takes-variable k box other part old new fit len taken =
+    let n = position_count box.shape in
+    record {
+      has_kind = and_from (is_variable k) (eqb (length new) n) (fits-variable k old n fit).0 (eq-eqb (length new) n len);
+      each_cell = λ position holds.
+          bytes_cond (in_box other position) (string_of new (place_in box position)) (string_of part (place_in other position)) (string_of old (place_in box position)) (taken position holds);
+    }
 
 pub extracts-variable : (k : Kind) (box other : Box) (old new : List (List ℕ)) (n : ℕ) → IsLong other → fits k (variable old) n ≡ true
     → new ≡ map (string_at box old) (positions other) → ExtractsEach k box (variable old) other (variable new)

@@ -4,3 +4,4 @@ pub mod Parts
 pub mod Present
 pub mod Offsets
 pub mod StringParts
+pub mod Places

@@ -1,8 +1,3 @@
-pub mod NumberCells
-pub mod Placed
-pub mod Joins
-pub mod SharedBoxes
-pub mod Cuts
 pub mod TypeSizes
 pub mod TargetLevels
 pub mod TargetBoxes

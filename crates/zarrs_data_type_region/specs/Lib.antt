@@ -1,4 +1,3 @@
-pub mod Places
 pub mod RegionData
 pub mod Targets
 pub mod States

@@ -9,9 +9,8 @@ ghost use Rattle.zarrs_subset.specs.Regions.{box_of};
 ghost use Rattle.zarrs_data_type_kinds.specs.Cell.{fill_cell, fill_of};
 ghost use Rattle.zarrs_data_type_kinds.specs.Kind.{kind, fixed_size};
 
-use crate::strings::PlacedStrings;
 use std::alloc::{AllocError, Global};
-use zarrs_data_type_bytes::{ArrayBytes, Mask};
+use zarrs_data_type_bytes::{ArrayBytes, Mask, PlacedStrings};
 use zarrs_data_type_kinds::{DataType, inner_fill};
 use zarrs_subset::ArraySubset;
 

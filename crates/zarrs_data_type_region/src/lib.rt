@@ -5,18 +5,15 @@
 //! `write_cells` and `copy_fill_value_into` write all of it; `subdivide` lends a smaller box of it, and `rejoin`
 //! takes that back.
 //!
-//! `region_data` of `specs/RegionData.antt` is the data that a region stands for so far, and `specs/Places.antt` has
-//! byte strings at their places. `data_of_target` of `specs/States.antt` is the data of the whole array.
-//! `specs/Targets.antt` says what a write leaves in the box (`TakesLevels`, `FillsBox`), and that every byte outside
-//! stays (`KeepsOutside`).
+//! `region_data` of `specs/RegionData.antt` is the data that a region stands for so far, and `data_of_target` of
+//! `specs/States.antt` the data of the whole array. `specs/Targets.antt` says what a write leaves in the box
+//! (`TakesLevels`, `FillsBox`), and that every byte outside stays (`KeepsOutside`).
 #![tactic(auto)]
 
 mod error;
 mod fill;
 mod levels;
-mod numbers;
 mod region_cells;
-mod strings;
 mod target;
 
 pub use error::ArrayBytesFixedDisjointViewCreateError;

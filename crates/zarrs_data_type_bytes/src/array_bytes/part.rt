@@ -10,7 +10,7 @@ ghost use Rattle.zarrs_data_type_kinds.specs.Kind.{kind};
 
 use super::{ArrayBytes, ArrayBytesOptional};
 use crate::boxes::bytes_with_part;
-use crate::string_boxes::strings_with_part;
+use crate::placed_strings::PlacedStrings;
 use crate::variable::ArrayBytesVariableLength;
 use std::alloc::{AllocError, Global};
 use std::borrow::CowSlice;
@@ -138,5 +138,7 @@ fn variable_with_part(
     let ArrayBytes::Variable(given) = part else {
         unreachable!()
     };
-    Ok(ArrayBytes::Variable(strings_with_part(alloc, strings, held_box, given, part_box)?))
+    let held = PlacedStrings::with_room(alloc, &strings, given.bytes().len())?;
+    let made = held.with_part(alloc, held_box, given, part_box)?;
+    Ok(ArrayBytes::Variable(made.into_strings(alloc)?))
 }

@@ -1,5 +1,0 @@
-use Rattle.std.proofs.Common.{◌≡◌, length, map, take}
-use Rattle.zarrs_data_type_region.proofs.strings.lens_of.Given as goal
-
-abbrev pub invariant-loop-index : goal.invariant-loop-index
-invariant-loop-index l = l.lens ≡ map length (take l.index l.strings)
