@@ -38,7 +38,26 @@ impl IntoField<FillValue> for bool {
     }
 }
 
-impl<T: WholeNumber> IntoField<FillValue> for T {
+/// A whole number that becomes a fill value: its bytes.
+pub trait FillNumber: WholeNumber {}
+
+impl FillNumber for u8 {}
+
+impl FillNumber for u16 {}
+
+impl FillNumber for u32 {}
+
+impl FillNumber for u64 {}
+
+impl FillNumber for i8 {}
+
+impl FillNumber for i16 {}
+
+impl FillNumber for i32 {}
+
+impl FillNumber for i64 {}
+
+impl<T: FillNumber> IntoField<FillValue> for T {
     ghost gives = { λ value field. field ≡ T.Bytes.le_bytes value };
 
     fn into_field(self, alloc: Global) -> Result<FillValue, AllocError> {

@@ -32,20 +32,6 @@ pub trait Element: Drop {
     fn serves(data_type: &DataType) -> bool
         ensures { result ≡ serves (kind data_type.now) };
 
-    /// Refuses a data type whose values these are not.
-    ///
-    /// # Errors
-    /// `IncompatibleElementType`: the values are not those of the data type.
-    final fn validate_data_type(data_type: &DataType) -> Result<(), ElementError>
-        ensures served { OnOk result (serves (kind data_type.now) ≡ true) }
-        ensures refused { IfErr result (RefusesElement (serves (kind data_type.now))) }
-    {
-        if !Self::serves(data_type) {
-            return Err(ElementError::IncompatibleElementType);
-        }
-        Ok(())
-    }
-
     /// Data whose cells are these values. Values that are bytes are lent, not copied.
     ///
     /// # Errors

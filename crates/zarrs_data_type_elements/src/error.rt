@@ -1,5 +1,6 @@
 //! Why lists of values are refused.
-ghost use Rattle.std.specs.Prelude.{◌≡◌};
+ghost use Rattle.std.specs.Prelude.{◌≡◌, true, IfErr, OnOk};
+ghost use Rattle.zarrs_data_type_elements.specs.Elements.{RefusesElement};
 ghost use Rattle.zarrs_data_type_elements.specs.declared.error.ElementError.TheVariants as element;
 
 use std::alloc::{AllocError, AllocFailed};
@@ -14,6 +15,17 @@ pub enum ElementError {
     /// Out of memory.
     #[error("out of memory")]
     OutOfMemory,
+}
+
+/// Refuses values that are not those of the data type.
+pub(crate) fn check_served(serves: bool) -> Result<(), ElementError>
+    ensures served { OnOk result (serves ≡ true) }
+    ensures refused { IfErr result (RefusesElement serves) }
+{
+    if !serves {
+        return Err(ElementError::IncompatibleElementType);
+    }
+    Ok(())
 }
 
 impl From<AllocError> for ElementError {

@@ -9,7 +9,7 @@ ghost use Rattle.zarrs_data_type_kinds.specs.Same.{kind_eq};
 
 use super::copies::copied;
 use super::{Element, ElementOwned};
-use crate::error::ElementError;
+use crate::error::{ElementError, check_served};
 use std::alloc::{AllocError, Global};
 use std::borrow::CowSlice;
 use zarrs_data_type_bytes::{ArrayBytes, are_flags};
@@ -55,7 +55,7 @@ impl Element for bool {
         data_type: &DataType,
         elements: &'a [bool],
     ) -> Result<ArrayBytes<'a>, ElementError> {
-        bool::validate_data_type(data_type)?;
+        check_served(<bool as Element>::serves(data_type))?;
         let bytes = flag_bytes(alloc, elements)?;
         Ok(ArrayBytes::Fixed(CowSlice::Owned(bytes)))
     }
@@ -76,7 +76,7 @@ impl ElementOwned for bool {
         data_type: &DataType,
         array_bytes: ArrayBytes<'_>,
     ) -> Result<Vec<bool>, ElementError> {
-        bool::validate_data_type(data_type)?;
+        check_served(<bool as Element>::serves(data_type))?;
         let ArrayBytes::Fixed(bytes) = array_bytes else {
             return Err(ElementError::IncompatibleElementType);
         };

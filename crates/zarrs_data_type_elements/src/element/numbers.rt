@@ -1,19 +1,20 @@
 //! Whole numbers as cells.
-ghost use Rattle.std.specs.Prelude.{◌≡◌, ◌%◌, true, length, map, refl, Some, IfOk, IfErr};
+ghost use Rattle.std.specs.Prelude.{◌≡◌, ◌%◌, false, true, length, map, refl, Some, IfOk, IfErr};
 ghost use Rattle.std.specs.Cow.{cow_slice_items};
 ghost use Rattle.std.specs.List.{flat_map};
+ghost use Rattle.std.specs.Option.{option_map_or};
 ghost use Rattle.zarrs_data_type_bytes.specs.ArrayData.{data_of};
 ghost use Rattle.zarrs_data_type_bytes.specs.Cells.{cells};
 ghost use Rattle.zarrs_data_type_numbers.specs.Options.{option_flag};
 ghost use Rattle.zarrs_data_type_kinds.specs.Cell.{bytes, takes_any_bytes};
-ghost use Rattle.zarrs_data_type_kinds.specs.Kind.{Kind, kind, element_size};
+ghost use Rattle.zarrs_data_type_kinds.specs.Kind.{Kind, kind, element_size, inner_of};
 ghost use Rattle.zarrs_data_type_kinds.specs.Kind as type;
 ghost use Rattle.zarrs_data_type_kinds.specs.Same.{kind_eq};
 ghost use Rattle.zarrs_data_type_elements.specs.Elements.{HoldsOptions, RefusesCells, option_cell};
 
 use super::copies::copied;
 use super::{Element, ElementOwned};
-use crate::error::ElementError;
+use crate::error::{ElementError, check_served};
 use std::alloc::{AllocError, Global};
 use std::borrow::CowSlice;
 use std::mem;
@@ -64,19 +65,15 @@ pub trait Number: WholeNumber {
         Self::Bytes::from_bytes(alloc, bytes.as_slice())
     }
 
-    // Such cells have the size of the number.
-    ghost number_size: { element_size number_kind ≡ Some Self.Bytes.size };
-
-    // They are any bytes of this size.
-    ghost number_any: { takes_any_bytes number_kind ≡ true };
+    // Such cells are any bytes of the number's size.
+    ghost number_cells: { (element_size number_kind ≡ Some Self.Bytes.size)
+        × (takes_any_bytes number_kind ≡ true) };
 }
 
 impl Number for u8 {
     ghost number_kind = { type.uint8 };
 
-    ghost number_size = { refl };
-
-    ghost number_any = { refl };
+    ghost number_cells = { (refl, refl) };
 
     fn is_number_of(data_type: &DataType) -> bool {
         *data_type == DataType::UInt8
@@ -98,9 +95,7 @@ impl Number for u8 {
 impl Number for u16 {
     ghost number_kind = { type.uint16 };
 
-    ghost number_size = { refl };
-
-    ghost number_any = { refl };
+    ghost number_cells = { (refl, refl) };
 
     fn is_number_of(data_type: &DataType) -> bool {
         *data_type == DataType::UInt16
@@ -110,9 +105,7 @@ impl Number for u16 {
 impl Number for u32 {
     ghost number_kind = { type.uint32 };
 
-    ghost number_size = { refl };
-
-    ghost number_any = { refl };
+    ghost number_cells = { (refl, refl) };
 
     fn is_number_of(data_type: &DataType) -> bool {
         *data_type == DataType::UInt32
@@ -122,9 +115,7 @@ impl Number for u32 {
 impl Number for u64 {
     ghost number_kind = { type.uint64 };
 
-    ghost number_size = { refl };
-
-    ghost number_any = { refl };
+    ghost number_cells = { (refl, refl) };
 
     fn is_number_of(data_type: &DataType) -> bool {
         *data_type == DataType::UInt64
@@ -134,9 +125,7 @@ impl Number for u64 {
 impl Number for i8 {
     ghost number_kind = { type.int8 };
 
-    ghost number_size = { refl };
-
-    ghost number_any = { refl };
+    ghost number_cells = { (refl, refl) };
 
     fn is_number_of(data_type: &DataType) -> bool {
         *data_type == DataType::Int8
@@ -146,9 +135,7 @@ impl Number for i8 {
 impl Number for i16 {
     ghost number_kind = { type.int16 };
 
-    ghost number_size = { refl };
-
-    ghost number_any = { refl };
+    ghost number_cells = { (refl, refl) };
 
     fn is_number_of(data_type: &DataType) -> bool {
         *data_type == DataType::Int16
@@ -158,9 +145,7 @@ impl Number for i16 {
 impl Number for i32 {
     ghost number_kind = { type.int32 };
 
-    ghost number_size = { refl };
-
-    ghost number_any = { refl };
+    ghost number_cells = { (refl, refl) };
 
     fn is_number_of(data_type: &DataType) -> bool {
         *data_type == DataType::Int32
@@ -170,9 +155,7 @@ impl Number for i32 {
 impl Number for i64 {
     ghost number_kind = { type.int64 };
 
-    ghost number_size = { refl };
-
-    ghost number_any = { refl };
+    ghost number_cells = { (refl, refl) };
 
     fn is_number_of(data_type: &DataType) -> bool {
         *data_type == DataType::Int64
@@ -193,7 +176,7 @@ impl<T: Number> Element for T {
         data_type: &DataType,
         elements: &'a [T],
     ) -> Result<ArrayBytes<'a>, ElementError> {
-        T::validate_data_type(data_type)?;
+        check_served(T::is_number_of(data_type))?;
         Ok(ArrayBytes::Fixed(T::lend_bytes(alloc, elements)?))
     }
 
@@ -202,7 +185,7 @@ impl<T: Number> Element for T {
         data_type: &DataType,
         elements: &mut Vec<T>,
     ) -> Result<ArrayBytes<'static>, ElementError> {
-        T::validate_data_type(data_type)?;
+        check_served(T::is_number_of(data_type))?;
         Ok(ArrayBytes::new_flen(T::take_bytes(alloc, elements)?))
     }
 
@@ -220,7 +203,7 @@ impl<T: Number> Element for T {
         data_type: &DataType,
         options: &[Option<T>],
     ) -> Result<ArrayBytes<'static>, ElementError> {
-        Option::<T>::validate_data_type(data_type)?;
+        check_served(is_option_of::<T>(data_type))?;
         Ok(number_option_data(alloc, data_type, options)?)
     }
 }
@@ -231,7 +214,7 @@ impl<T: Number> ElementOwned for T {
         data_type: &DataType,
         array_bytes: ArrayBytes<'_>,
     ) -> Result<Vec<T>, ElementError> {
-        T::validate_data_type(data_type)?;
+        check_served(T::is_number_of(data_type))?;
         let ArrayBytes::Fixed(bytes) = array_bytes else {
             return Err(ElementError::IncompatibleElementType);
         };
@@ -247,8 +230,19 @@ impl<T: Number> ElementOwned for T {
         data_type: &DataType,
         array_bytes: ArrayBytes<'_>,
     ) -> Result<Vec<Option<T>>, ElementError> {
-        Option::<T>::validate_data_type(data_type)?;
+        check_served(is_option_of::<T>(data_type))?;
         number_options(alloc, data_type, &array_bytes)
+    }
+}
+
+/// Whether options of the numbers are the values of this data type.
+fn is_option_of<T: Number>(data_type: &DataType) -> bool
+    ensures { result ≡ option_map_or (λ k. kind_eq k T.number_kind) (inner_of (kind data_type.now))
+        false }
+{
+    match data_type.optional_inner() {
+        Some(inner) => T::is_number_of(inner),
+        None => false,
     }
 }
 

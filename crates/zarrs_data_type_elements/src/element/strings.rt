@@ -12,24 +12,24 @@ ghost use Rattle.zarrs_data_type_kinds.specs.Kind as type;
 ghost use Rattle.zarrs_data_type_kinds.specs.Same.{kind_eq};
 
 use super::{Element, ElementOwned};
-use crate::error::ElementError;
+use crate::error::{ElementError, check_served};
 use std::alloc::{AllocError, Global};
 use std::convert::{AsSlice, AsStr};
 use zarrs_data_type_bytes::{ArrayBytes, ArrayBytesVariableLength, VariableLengthBuilder};
 use zarrs_data_type_kinds::DataType;
 
 /// Data whose cells are these texts.
-fn text_data<S: AsStr>(
+fn text_data<'a, S: AsStr>(
     alloc: Global,
     data_type: &DataType,
     texts: &[S],
-) -> Result<ArrayBytes<'static>, ElementError>
+) -> Result<ArrayBytes<'a>, ElementError>
     ensures cells { IfOk result (λ made. cells (kind data_type.now) (data_of made)
         ≡ Some (map (λ text. bytes (S.text text)) texts.now)) }
     ensures served { OnOk result (kind_eq (kind data_type.now) type.string ≡ true) }
     ensures refused { IfErr result (RefusesElement (kind_eq (kind data_type.now) type.string)) }
 {
-    String::validate_data_type(data_type)?;
+    check_served(<String as Element>::serves(data_type))?;
     let mut strings = VariableLengthBuilder::with_capacity(alloc, texts.len(), 0)?;
     for text in texts {
         strings.push(text.as_str().as_bytes())?;
@@ -38,17 +38,17 @@ fn text_data<S: AsStr>(
 }
 
 /// Data whose cells are these byte strings.
-fn bytes_data<S: AsSlice<u8>>(
+fn bytes_data<'a, S: AsSlice<u8>>(
     alloc: Global,
     data_type: &DataType,
     lists: &[S],
-) -> Result<ArrayBytes<'static>, ElementError>
+) -> Result<ArrayBytes<'a>, ElementError>
     ensures cells { IfOk result (λ made. cells (kind data_type.now) (data_of made)
         ≡ Some (map (λ list. bytes (S.items list)) lists.now)) }
     ensures served { OnOk result (kind_eq (kind data_type.now) type.bytes ≡ true) }
     ensures refused { IfErr result (RefusesElement (kind_eq (kind data_type.now) type.bytes)) }
 {
-    Vec::<u8>::validate_data_type(data_type)?;
+    check_served(<Vec<u8> as Element>::serves(data_type))?;
     let mut strings = VariableLengthBuilder::with_capacity(alloc, lists.len(), 0)?;
     for list in lists {
         strings.push(list.as_slice())?;
@@ -120,7 +120,7 @@ impl ElementOwned for String {
         data_type: &DataType,
         array_bytes: ArrayBytes<'_>,
     ) -> Result<Vec<String>, ElementError> {
-        String::validate_data_type(data_type)?;
+        check_served(<String as Element>::serves(data_type))?;
         let ArrayBytes::Variable(strings) = array_bytes else {
             return Err(ElementError::IncompatibleElementType);
         };
@@ -191,7 +191,7 @@ impl ElementOwned for Vec<u8> {
         data_type: &DataType,
         array_bytes: ArrayBytes<'_>,
     ) -> Result<Vec<Vec<u8>>, ElementError> {
-        Vec::<u8>::validate_data_type(data_type)?;
+        check_served(<Vec<u8> as Element>::serves(data_type))?;
         let ArrayBytes::Variable(strings) = array_bytes else {
             return Err(ElementError::IncompatibleElementType);
         };

@@ -1,4 +1,4 @@
-use Rattle.std.proofs.Common.{map, refl, ap, ◌∙◌}
+use Rattle.std.proofs.Common.{map, refl, ap, ◌∙◌, sym}
 use Rattle.std.specs.List.{list_all}
 use Rattle.std.specs.Str.{is_utf8}
 use Rattle.std.proofs.lemmas.List.{take_all}
@@ -21,6 +21,6 @@ pub returns-clause-cells : goal.returns-clause-cells
 returns-clause-cells g c =
     let k = kind c.args.data_type.now in
     let texts = c.args.texts.now in
-    cells-made g.S.AsStr.text k type.string texts c.finish.result (kind_is k type.string c.in_ok-validate_data_type.ensures.served) refl
+    cells-made g.S.AsStr.text k type.string texts c.finish.result (kind_is k type.string (sym c.serves.ensures ∙ c.in_ok-check_served.ensures.served)) refl
     (c.finish.ensures ∙ c.loop-text.invariant.strings ∙ ap (map g.S.AsStr.text) (take_all c.loop-text.text-index texts c.loop-text-test.false))
     (ap (list_all (λ s. is_utf8 s)) c.finish.ensures ∙ c.loop-text.invariant.texts)

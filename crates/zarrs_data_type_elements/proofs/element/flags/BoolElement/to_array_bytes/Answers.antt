@@ -8,4 +8,4 @@ use Rattle.zarrs_data_type_elements.proofs.element.flags.BoolElement.to_array_by
 pub returns-clause-cells : goal.returns-clause-cells
 returns-clause-cells c =
     let k = kind c.args.data_type.now in
-    flags-made k c.args.elements.now c.in_ok-bytes.bytes.items (kind_is k type.bool c.in_ok-validate_data_type.ensures.served) c.in_ok-bytes.ensures
+    flags-made k c.args.elements.now c.in_ok-bytes.bytes.items (kind_is k type.bool (sym c.serves.ensures ∙ c.in_ok-check_served.ensures.served)) c.in_ok-bytes.ensures

@@ -14,7 +14,7 @@ returns-in-Some-clause-cells c =
     let k = kind c.args.data_type.now in
     ap (λ d. cells k (data_of d)) c.in-Fixed.is
     ∙ ap (λ b. cells k (fixed b)) (sym c.as_slice.ensures.value)
-    ∙ flags-read k c.in-Some.flags.items c.as_slice.result.now (kind_is k type.bool c.in_ok-validate_data_type.ensures.served)
+    ∙ flags-read k c.in-Some.flags.items c.as_slice.result.now (kind_is k type.bool (sym c.serves.ensures ∙ c.in_ok-check_served.ensures.served))
     (ap (option_map (λ v. map from_bool v.items)) (sym c.in-Some.is) ∙ c.in_ok-flags.ensures)
 
 pub returns-clause-refused : goal.returns-clause-refused

@@ -15,4 +15,4 @@ returns-clause-cells g c =
     ap (λ d. cells (kind t) (data_of d)) c.in-Fixed.is
     ∙ ap (λ b. cells (kind t) (fixed b)) (sym c.in_ok-own_bytes.ensures)
     ∙ cells-numbers g.T.Bytes.NumberBytes.le_bytes t g.T.Number.number_kind g.T.Bytes.NumberBytes.size c.in_ok-own_bytes.field-0.items
-    c.in_ok-validate_data_type.ensures.served g.met.T.Number.number_size g.met.T.Number.number_any g.T.Bytes.NumberBytes.sized
+    (sym c.is_number_of.ensures ∙ c.in_ok-check_served.ensures.served) g.met.T.Number.number_cells.0 g.met.T.Number.number_cells.1 g.T.Bytes.NumberBytes.sized

@@ -11,7 +11,7 @@ pub returns-in-Some-clause-cells : goal.returns-in-Some-clause-cells
 returns-in-Some-clause-cells c =
     let k = kind c.args.data_type.now in
     ap (λ d. cells k (data_of d)) c.in-Variable.is
-    ∙ cells-read string_bytes k type.string c.in-Some.texts.items c.in-Variable.strings (kind_is k type.string c.in_ok-validate_data_type.ensures.served) refl
+    ∙ cells-read string_bytes k type.string c.in-Some.texts.items c.in-Variable.strings (kind_is k type.string (sym c.serves.ensures ∙ c.in_ok-check_served.ensures.served)) refl
     (ap (option_map (λ v. map string_bytes v.items)) (sym c.in-Some.is) ∙ c.in_ok-texts.ensures)
 
 pub returns-clause-refused : goal.returns-clause-refused

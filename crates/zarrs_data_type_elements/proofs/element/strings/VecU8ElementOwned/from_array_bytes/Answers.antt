@@ -10,5 +10,5 @@ pub returns-clause-cells : goal.returns-clause-cells
 returns-clause-cells c =
     let k = kind c.args.data_type.now in
     ap (λ d. cells k (data_of d)) c.in-Variable.is
-    ∙ cells-made (λ b. b.items) k type.bytes c.in_ok-lists_of.field-0.items c.in-Variable.strings (kind_is k type.bytes c.in_ok-validate_data_type.ensures.served) refl
+    ∙ cells-made (λ b. b.items) k type.bytes c.in_ok-lists_of.field-0.items c.in-Variable.strings (kind_is k type.bytes (sym c.serves.ensures ∙ c.in_ok-check_served.ensures.served)) refl
     (sym c.in_ok-lists_of.ensures) (all_true c.in-Variable.strings)
