@@ -1,9 +1,9 @@
 -- A part of a chunk's cells written into its shard, subchunk by subchunk.
-use Rattle.std.proofs.Common.{◌≡◌, ℕ, ◌+◌, ◌<◌, ◌≤◌, ◌*◌, ◌^◌, not, ◌&&◌, ◌||◌, Bool, true, false, cond, inl, inr, List, [], ◌∷◌, ◌++◌, length, map, get_or, replicate, Option, None, Some, IsSome, refl, sym, ap, subst, ◌∙◌, arith}
+use Rattle.std.proofs.Common.{◌≡◌, ℕ, zero, suc, ◌+◌, ◌<◌, ◌≤◌, ◌*◌, ◌^◌, not, ◌&&◌, ◌||◌, Bool, true, false, cond, inl, inr, List, [], ◌∷◌, ◌++◌, length, map, take, drop, get_or, replicate, Option, None, Some, IsSome, refl, sym, ap, subst, ◌∙◌, arith}
 use Rattle.std.specs.Prelude.{is_some, nat_le, nat_lt, option_and_then, option_map, unwrap_or, ◌==◌, if◌then◌else◌}
-use Rattle.std.specs.List.{range_with_len}
+use Rattle.std.specs.List.{list_any, range_with_len}
 use Rattle.std.proofs.lemmas.Bool.{and_from, cases_Bool, false≢true, le-leb, ltb-false, ltb-true, or_left, or_right}
-use Rattle.std.proofs.lemmas.List.{length-replicate}
+use Rattle.std.proofs.lemmas.List.{append-nil, append_assoc, length-replicate}
 use Rattle.std.proofs.lemmas.List.Folds.{list_any_at}
 use Rattle.std.proofs.lemmas.List.Sums.{list_all-from_AllPass}
 use Rattle.std.proofs.lemmas.List.FromFn.{length-range_with_len, get_or-range_with_len, length-map-range_with_len, get_or-map-range_with_len, map-range_with_len_more}
@@ -24,9 +24,9 @@ use Rattle.zarrs_codec_leaf.specs.declared.error.Misfit.{Misfit}
 use Rattle.zarrs_codec_leaf.specs.declared.error.CodecError.{CodecError}
 use Rattle.zarrs_codec_leaf.specs.declared.error.CodecError.TheVariants as error
 use Rattle.zarrs_metadata_parts.specs.Extension.{◌>>=◌}
-use Rattle.zarrs_codec_shard.specs.PartialShards.{PartialChange, is_met, stored_parts, updated_subchunk, write_of}
+use Rattle.zarrs_codec_shard.specs.PartialShards.{PartialChange, all_absent, is_met, stored_parts, updated_subchunk, write_of}
 use Rattle.zarrs_codec_shard.specs.ShardIndex.{range_part}
-use Rattle.zarrs_codec_shard.specs.ShardPatches.{HasRoom, IsPatching, PushesChange}
+use Rattle.zarrs_codec_shard.specs.ShardPatches.{HasRoom, IsPatching, KeepsParts, PushesChange}
 use Rattle.zarrs_codec_shard.specs.Sharded.{cells_of_part, part_of}
 use Rattle.zarrs_codec_shard.specs.Steps.{all_present}
 use Rattle.zarrs_codec_shard.specs.SubchunkData.{UpdatesSubchunk}
@@ -53,9 +53,11 @@ held_data m law k f sub None d is there =
     subst (λ n. HasCells k d n) (length-replicate (position_count sub) f) (HasCells-some k d (replicate (position_count sub) f) is)
 held_data m law k f sub (Some b) d is there = decoded-has_cells m law k f sub b d is there
 
-pub present_part : (b : List ℕ) (range : Option SubchunkRange) → is_some range ≡ is_some (range_part b range)
-present_part b None = refl
-present_part b (Some r) = refl
+-- whether one of some subchunks is present
+pub any_present : (b : List ℕ) (ranges : List (Option SubchunkRange)) → list_any is_some ranges ≡ not (all_absent (map (range_part b) ranges))
+any_present b [] = refl
+any_present b (None ∷ ranges) = any_present b ranges
+any_present b (Some r ∷ ranges) = refl
 
 -- what is too large of it
 module _ (m : ChainMeaning) (k : Kind) (f : Cell) (sub : List ℕ) where
@@ -201,23 +203,48 @@ module _ (m : ChainMeaning) (empty : Bool) (k : Kind) (f : Cell) (s sub : List �
     pub changes_started : (count : ℕ) (patch : ShardPatch) → IsPatching count stored parts patch [] → HasFirstChanges m empty k f s sub stored part d parts count 0 patch
     changes_started count patch is = record { changes = []; changes_are = refl; patching = is }
 
-    pub has_room : (count n : ℕ) (patch : ShardPatch) → stored_parts count stored ≡ Some parts → n < count → HasFirstChanges m empty k f s sub stored part d parts count n patch → HasRoom patch
-    has_room count n patch read lt is =
+    pub has_room : (count n run : ℕ) (patch : ShardPatch) → stored_parts count stored ≡ Some parts → n + run ≤ count → HasFirstChanges m empty k f s sub stored part d parts count n patch → HasRoom patch run
+    has_room count n run patch read le is =
         let len = first_count n is.changes is.changes_are in
         let l = index_length count stored parts patch is.changes read (omega (arith, len)) is.patching in
-        let room : length patch.entries.items + 16 ≤ length patch.index.items = omega (arith, l.0, l.1, len) in
+        let room : length patch.entries.items + run * 16 ≤ length patch.index.items = omega (arith, l.0, l.1, len) in
         room
 
-    pub changes_more : (count n : ℕ) (old new : ShardPatch) (present : Bool) (c : Option (Option (List ℕ))) → stored_parts count stored ≡ Some parts → n < count → present ≡ is_some (get_or parts n None)
-        → changed_part m empty k f s sub part d n (get_or parts n None) ≡ Some c → HasFirstChanges m empty k f s sub stored part d parts count n old → PushesChange old new present c
-        → HasFirstChanges m empty k f s sub stored part d parts count (n + 1) new
-    changes_more count n old new present c read lt present_is here is pushes =
+    first_more : (n : ℕ) (cs : List (Option (Option (List ℕ)))) (c : Option (Option (List ℕ))) → changes_of m empty k f s sub part d parts n ≡ Some cs → changed_part m empty k f s sub part d n (get_or parts n None) ≡ Some c
+        → changes_of m empty k f s sub part d parts (n + 1) ≡ Some (cs ++ c ∷ [])
+    first_more n cs c is here =
         let T = λ (j : ℕ). changed_part m empty k f s sub part d j (get_or parts j None) in
+        ap all_present (map-range_with_len_more T 0 n n (omega arith)) ∙ all_present-more (map T (range_with_len 0 n)) cs (T n) c is here
+
+    pub changes_more : (count n : ℕ) (old new : ShardPatch) (c : Option (List ℕ)) → stored_parts count stored ≡ Some parts → n < count
+        → changed_part m empty k f s sub part d n (get_or parts n None) ≡ Some (Some c) → HasFirstChanges m empty k f s sub stored part d parts count n old → PushesChange old new c
+        → HasFirstChanges m empty k f s sub stored part d parts count (n + 1) new
+    changes_more count n old new c read lt here is pushes =
         let len = first_count n is.changes is.changes_are in
         record {
-          changes = is.changes ++ c ∷ [];
-          changes_are = ap all_present (map-range_with_len_more T 0 n n (omega arith)) ∙ all_present-more (map T (range_with_len 0 n)) is.changes (T n) c is.changes_are here;
-          patching = pushes count stored parts is.changes read (omega (arith, len)) (present_is ∙ ap (λ j. is_some (get_or parts j None)) (sym len)) is.patching;
+          changes = is.changes ++ Some c ∷ [];
+          changes_are = first_more n is.changes (Some c) is.changes_are here;
+          patching = pushes count stored parts is.changes read (omega (arith, len)) is.patching;
+        }
+
+    first_kept : (n run : ℕ) (cs : List (Option (Option (List ℕ)))) → changes_of m empty k f s sub part d parts n ≡ Some cs → ((j : ℕ) → n ≤ j → j < n + run → is_met s sub part j ≡ false)
+        → changes_of m empty k f s sub part d parts (n + run) ≡ Some (cs ++ replicate run None)
+    first_kept n zero cs is apart = ap (changes_of m empty k f s sub part d parts) (let same : n + 0 ≡ n = omega arith in same) ∙ is ∙ ap Some (sym (append-nil cs))
+    first_kept n (suc run) cs is apart =
+        ap (changes_of m empty k f s sub part d parts) (let same : n + suc run ≡ n + 1 + run = omega arith in same)
+        ∙ first_kept (n + 1) run (cs ++ None ∷ []) (first_more n cs None is (not_met n (get_or parts n None) (apart n (omega arith) (omega arith)))) (λ j from upto. apart j (omega arith) (omega arith))
+        ∙ ap Some (append_assoc cs (None ∷ []) (replicate run None))
+
+    -- a run that the part does not meet
+    pub changes_kept : (count n run : ℕ) (old new : ShardPatch) (any : Bool) → stored_parts count stored ≡ Some parts → n + run ≤ count → ((j : ℕ) → n ≤ j → j < n + run → is_met s sub part j ≡ false)
+        → any ≡ not (all_absent (take run (drop n parts))) → HasFirstChanges m empty k f s sub stored part d parts count n old → KeepsParts old new run any
+        → HasFirstChanges m empty k f s sub stored part d parts count (n + run) new
+    changes_kept count n run old new any read le apart any_is is keeps =
+        let len = first_count n is.changes is.changes_are in
+        record {
+          changes = is.changes ++ replicate run None;
+          changes_are = first_kept n run is.changes is.changes_are apart;
+          patching = keeps count stored parts is.changes read (omega (arith, len)) (any_is ∙ ap (λ i. not (all_absent (take run (drop i parts)))) (sym len)) is.patching;
         }
 
     pub change_refused : (n : ℕ) (e : CodecError) → n < length parts → RefusesChange m empty k f s sub part d n (get_or parts n None) e → RefusesChanges m empty k f s sub part d parts e

@@ -3,6 +3,7 @@ use Rattle.std.specs.Prelude.{◌≡◌, ℕ, Option, Some, List, length, option
 use Rattle.zarrs_codec_chain.specs.Chain.{ChainMeaning}
 use Rattle.zarrs_codec_chain.specs.Options.{stores_empty_chunks}
 use Rattle.zarrs_codec_leaf.specs.declared.error.CodecError.{CodecError}
+use Rattle.zarrs_codec_shard.specs.PartialShards.{is_met}
 use Rattle.zarrs_codec_shard.specs.ShardPatches.{change_of}
 use Rattle.zarrs_codec_shard.specs.SubchunkData.{chunk_shape, subchunk_shape}
 use Rattle.zarrs_codec_shard.specs.Subchunks.{subchunk_count}
@@ -41,6 +42,10 @@ pub record IsUpdate (u : ShardUpdate) : Type 0 where
 -- the chain of the subchunks takes them
 abbrev pub FitsUpdate : ChainMeaning → ShardUpdate → Type 0
 FitsUpdate m u = m.fits (kind_of u.cell_type.now) (subchunk_shape u.subchunks) ≡ true
+
+-- the part meets the subchunk of this number
+abbrev pub MeetsAt : ShardUpdate → (number : ℕ) → Type 0
+MeetsAt u number = is_met (chunk_shape u.subchunks) (subchunk_shape u.subchunks) (box_of u.part.now) number ≡ true
 
 -- ---- one subchunk, whose part is `old`
 

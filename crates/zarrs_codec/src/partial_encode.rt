@@ -1,6 +1,7 @@
 //! Parts of chunks to bytes.
 ghost use Rattle.std.specs.Prelude.{◌≡◌, ◌<◌, IfErr, IfOk, IsSome, OnOk, Some, true};
-ghost use Rattle.std.specs.Prelude.{length, option_map};
+ghost use Rattle.std.specs.Prelude.{is_some, length, option_map};
+ghost use Rattle.std.specs.List.{list_any};
 ghost use Rattle.zarrs_subset.specs.Boxes.{position_count};
 ghost use Rattle.zarrs_subset.specs.Regions.{box_of};
 ghost use Rattle.zarrs_data_type.specs.CellTypes.{chunk_kind, kind_of, shape_of};
@@ -12,7 +13,7 @@ ghost use Rattle.zarrs_codec_chain.specs.Chunks.{RefusesToEncodePart, partial_en
 ghost use Rattle.zarrs_codec_chain.specs.Options.{stores_empty_chunks};
 ghost use Rattle.zarrs_codec.specs.Chains.{chain_meaning, inner_chain_of, sharding_meaning};
 ghost use Rattle.zarrs_codec.specs.PartialShardings.{RefusesIndex, RefusesLarge, stored_bytes};
-ghost use Rattle.zarrs_codec.specs.ShardUpdates.{DecodesOld, FitsUpdate, IsUpdate, MeetsDecoded, RefusesChangeOf};
+ghost use Rattle.zarrs_codec.specs.ShardUpdates.{DecodesOld, FitsUpdate, IsUpdate, MeetsAt, MeetsDecoded, RefusesChangeOf};
 ghost use Rattle.zarrs_codec.specs.ShardUpdates.{RefusesChangesOf, RefusesMetOf, RefusesOld, RefusesOldTest};
 ghost use Rattle.zarrs_codec.specs.ShardUpdates.{RefusesUpdate, WritesUpdate, bytes_in, change_in, count_in, old_decoded};
 
@@ -161,9 +162,11 @@ impl ShardingCodec {
             update.now) }
     {
         for (number, range) in update.ranges.iter().enumerate() {
-            if update.subchunks.meets(alloc, update.part, number as u64)? {
-                self.test_part(alloc, update, *range)?;
+            let run = update.subchunks.unmet(update.part, number as u64);
+            if run > 0 {
+                continue;
             }
+            self.test_part(alloc, update, *range)?;
         }
         Ok(())
     }
@@ -187,7 +190,7 @@ impl ShardingCodec {
         }
     }
 
-    /// What is done with the key, subchunk by subchunk.
+    /// What is done with the key: subchunks that the part does not meet are kept, run by run, and each other one is changed.
     fn patched(
         &self,
         alloc: Global,
@@ -202,36 +205,45 @@ impl ShardingCodec {
     {
         let count = update.ranges.len() as u64;
         let mut patch = ShardPatch::new(alloc, update.stored, count)?;
-        for (number, range) in update.ranges.iter().enumerate() {
-            let change = self.changed(alloc, update, *range, number as u64)?;
-            patch.push(range.is_some(), &change)?;
+        let mut number = 0;
+        while number < count {
+            let run = update.subchunks.unmet(update.part, number);
+            if run > 0 {
+                let end = number + run;
+                let any = has_present(&update.ranges[number as usize..end as usize]);
+                patch.keep(run as usize, any)?;
+                number = end;
+                continue;
+            }
+            let range = update.ranges[number as usize];
+            let part = self.changed(alloc, update, range, number)?;
+            patch.push(&part)?;
+            number += 1;
         }
         Ok(patch.finish()?)
     }
 
-    /// What becomes of the subchunk of this number, which stands at this range of the shard: nothing if the part does not
-    /// meet it.
+    /// The new bytes of the subchunk of this number, which stands at this range of the shard and is met by the part, or
+    /// `None` if it is left out.
     fn changed(
         &self,
         alloc: Global,
         update: &ShardUpdate<'_, '_>,
         range: Option<SubchunkRange>,
         number: u64,
-    ) -> Result<Option<Option<Vec<u8>>>, CodecError>
+    ) -> Result<Option<Vec<u8>>, CodecError>
         requires update { IsUpdate update.now }
         requires fits { FitsUpdate (chain_meaning (inner_chain_of self.now)) update.now }
         requires within { IsRangeWithin (length (bytes_in update.now)) range }
         requires number { number < count_in update.now }
-        ensures change { IfOk result (λ change. change_in (chain_meaning (inner_chain_of self.now))
-            update.now number (range_part (bytes_in update.now) range) ≡ Some (option_map
-            (λ part. option_map (λ bytes. bytes.items) part) change)) }
+        requires met { MeetsAt update.now number }
+        ensures change { IfOk result (λ part. change_in (chain_meaning (inner_chain_of self.now))
+            update.now number (range_part (bytes_in update.now) range) ≡ Some (Some (option_map
+            (λ bytes. bytes.items) part))) }
         ensures refused { IfErr result (RefusesChangeOf (chain_meaning (inner_chain_of self.now))
             update.now number (range_part (bytes_in update.now) range)) }
     {
         let subchunks = &update.subchunks;
-        if !subchunks.meets(alloc, update.part, number)? {
-            return Ok(None);
-        }
         let cell_type = update.cell_type;
         let held = self.held_part(alloc, update, range)?;
         let (part, bytes) = (update.part, update.bytes);
@@ -240,8 +252,7 @@ impl ShardingCodec {
             cell_type,
             shape: subchunks.shape(),
         };
-        let encoded = self.encode_part(alloc, updated, &inner, update.options)?;
-        Ok(Some(encoded))
+        self.encode_part(alloc, updated, &inner, update.options)
     }
 
     /// Why the cells of a subchunk are not decoded that are too large: no bytes are so many cells under `bytes` alone.
@@ -303,6 +314,13 @@ fn refusal_of_index(stored: Option<&[u8]>) -> CodecError
         Some(_) => CodecError::DoesNotFit(Misfit::Bytes),
         None => CodecError::SizeOverflow,
     }
+}
+
+/// Whether one of the subchunks is there.
+fn has_present(ranges: &[Option<SubchunkRange>]) -> bool
+    ensures { result ≡ list_any is_some ranges.now }
+{
+    ranges.iter().any(|range| range.is_some())
 }
 
 /// The bytes that are stored: none without a key.

@@ -23,3 +23,4 @@ mod ShardWriting
 pub mod Sizes
 pub mod SubchunkBoxes
 mod SubchunkCells
+mod UnmetRuns

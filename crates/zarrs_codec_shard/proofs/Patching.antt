@@ -3,14 +3,14 @@ use Rattle.std.proofs.Common.{◌≡◌, ℕ, zero, suc, ◌+◌, ◌-◌, ◌*�
 use Rattle.std.specs.Prelude.{slice_range, nat_le, is_some, unwrap_or, nat_lt}
 use Rattle.std.specs.List.{flat_map, repeat}
 use Rattle.std.proofs.lemmas.Bool.{leb-true, lt-ltb, false≢true}
-use Rattle.std.proofs.lemmas.List.{length-append, append_assoc, append-nil, length-drop, length-replicate, length-take-le, map-id}
+use Rattle.std.proofs.lemmas.List.{length-append, append_assoc, append-nil, drop-drop, length-drop, length-replicate, length-take-le, map-id}
 use Rattle.std.proofs.lemmas.List.FromFn.{get_or-map-range_with_len}
-use Rattle.std.proofs.Math.Seq.{take-length}
+use Rattle.std.proofs.Math.Seq.{drop-cons, take-add, take-length}
 use Rattle.zarrs_subset.specs.Pieces.{pieces}
 use Rattle.zarrs_data_type_bytes.proofs.Pieces.{joined_all, length-flat_map_same, pieces-flat_map, repeat_same}
 use Rattle.zarrs_codec_shard.specs.PartialShards.{put, erase, all_absent, changed_bytes, changed_entries, changed_parts, changed_text, stored_end, stored_entries, stored_parts, write_of}
 use Rattle.zarrs_codec_shard.specs.ShardIndex.{range_part}
-use Rattle.zarrs_codec_shard.specs.ShardPatches.{IsPatching, PushesChange}
+use Rattle.zarrs_codec_shard.specs.ShardPatches.{IsPatching, KeepsParts, PushesChange}
 use Rattle.zarrs_codec_shard.specs.declared.shard_index.SubchunkRange.{SubchunkRange}
 use Rattle.zarrs_codec_shard.specs.Shards.{absent, entry_bytes}
 use Rattle.zarrs_codec_shard.specs.Steps.{given_if}
@@ -78,6 +78,14 @@ bytes_more (d ∷ changes) c =
 abbrev pub any_present : (parts : List (Option (List ℕ))) (changes : List (Option (Option (List ℕ)))) → Bool
 any_present parts changes = not (all_absent (changed_parts (take (length changes) parts) changes))
 
+pub or_false : (b : Bool) → b ≡ (b || false)
+or_false true = refl
+or_false false = refl
+
+pub or_true : (b : Bool) → true ≡ (b || true)
+or_true true = refl
+or_true false = refl
+
 or_assoc : (a b c : Bool) → not (not a && not (b || c)) ≡ (not (not a && not b)) || c
 or_assoc true b c = refl
 or_assoc false true c = refl
@@ -140,30 +148,111 @@ index_length count stored parts patch changes made le is =
       ap length is.index_is ∙ length-flat_map_same (λ e. e) 16 entries s.are.each ∙ ap (λ m. m * 16) s.entry_count,
     )
 
+parts_long : (count : ℕ) (stored : Option (List ℕ)) (parts : List (Option (List ℕ))) → stored_parts count stored ≡ Some parts → length parts ≡ count
+parts_long count None parts made = ap length (sym (some_is made)) ∙ length-replicate {A = Option (List ℕ)} count None
+parts_long count (Some shard) parts made = length-shard_parts false count shard parts made
+
 -- one more subchunk is pushed, whose entry and bytes are these
-pub pushed : (old new : ShardPatch) (is_present : Bool) (c : Option (Option (List ℕ))) → new.base ≡ old.base → new.index ≡ old.index
-    → new.encoded.items ≡ old.encoded.items ++ unwrap_or (unwrap_or c None) []
+pub pushed : (old new : ShardPatch) (part : Option (List ℕ)) → new.base ≡ old.base → new.index ≡ old.index → new.encoded.items ≡ old.encoded.items ++ unwrap_or part []
     → ((count : ℕ) (stored : Option (List ℕ)) (parts : List (Option (List ℕ))) (changes : List (Option (Option (List ℕ)))) → stored_parts count stored ≡ Some parts → length changes < count → IsPatching count stored parts old changes
-    → new.entries.items ≡ old.entries.items ++ next_entry (stored_end count stored) (stored_entries count stored) changes c)
-    → ((part : Option (List ℕ)) → is_present ≡ is_some part → new.any ≡ (old.any || is_some (unwrap_or c part)))
-    → PushesChange old new is_present c
-pushed old new is_present c base_same index_same encoded entry any = λ count stored parts changes made lt present is.
+    → new.entries.items ≡ old.entries.items ++ next_entry (stored_end count stored) (stored_entries count stored) changes (Some part))
+    → new.any ≡ (old.any || is_some part) → PushesChange old new part
+pushed old new part base_same index_same encoded entry any = λ count stored parts changes made lt is.
     let s = is_stored count stored parts made in
     let entries = stored_entries count stored in
     let o = stored_end count stored in
     let below : length changes < length entries = (let e = s.entry_count in omega arith) in
-    let part = get_or parts (length changes) None in
     record {
       base_is = base_same ∙ is.base_is;
       index_is = ap (λ v. v.items) index_same ∙ is.index_is;
-      encoded_is = encoded ∙ ap (λ l. l ++ unwrap_or (unwrap_or c None) []) is.encoded_is ∙ sym (bytes_more changes c);
-      entries_are = entry count stored parts changes made lt is ∙ ap (λ l. l ++ next_entry o entries changes c) is.entries_are ∙ sym (index_more o entries changes c below);
-      any_is = any part present ∙ ap (λ b. b || is_some (unwrap_or c part)) is.any_is ∙ sym (any_more parts changes c (parts_long count stored parts changes made lt));
+      encoded_is = encoded ∙ ap (λ l. l ++ unwrap_or part []) is.encoded_is ∙ sym (bytes_more changes (Some part));
+      entries_are = entry count stored parts changes made lt is ∙ ap (λ l. l ++ next_entry o entries changes (Some part)) is.entries_are ∙ sym (index_more o entries changes (Some part) below);
+      any_is = any ∙ ap (λ b. b || is_some part) is.any_is ∙ sym (any_more parts changes (Some part) (omega (arith, parts_long count stored parts made)));
     }
-  where
-    parts_long : (count : ℕ) (stored : Option (List ℕ)) (parts : List (Option (List ℕ))) (changes : List (Option (Option (List ℕ)))) → stored_parts count stored ≡ Some parts → length changes < count → length changes < length parts
-    parts_long count None parts changes made lt = let e = ap length (sym (some_is made)) ∙ length-replicate {A = Option (List ℕ)} count None in omega arith
-    parts_long count (Some shard) parts changes made lt = let e = length-shard_parts false count shard parts made in omega arith
+
+-- ---- subchunks that are kept
+
+slice_join : (w : List ℕ) (a m n : ℕ) → slice_range w a (a + m) ++ slice_range w (a + m) (a + m + n) ≡ slice_range w a (a + (m + n))
+slice_join w a m n =
+    let d = drop a w in
+    let front : a + m - a ≡ m = omega arith in
+    let back : a + m + n - (a + m) ≡ n = omega arith in
+    let both : m + n ≡ a + (m + n) - a = omega arith in
+    ap (λ i. take i d ++ slice_range w (a + m) (a + m + n)) front
+    ∙ ap (λ i. take m d ++ take i (drop (a + m) w)) back
+    ∙ ap (λ l. take m d ++ take n l) (sym (drop-drop m a w))
+    ∙ sym (take-add m n d)
+    ∙ ap (λ i. take i d) both
+
+index_kept : (o : ℕ) (entries : List (List ℕ)) (changes : List (Option (Option (List ℕ)))) (n : ℕ) → AreEntries entries → length changes + n ≤ length entries
+    → first_index o entries (changes ++ replicate n None) ≡ first_index o entries changes ++ slice_range (flat_map (λ e. e) entries) (length changes * 16) (length changes * 16 + n * 16)
+index_kept o entries changes zero are le =
+    let k = length changes * 16 in
+    let none : k + 0 * 16 - k ≡ 0 = omega arith in
+    ap (first_index o entries) (append-nil changes)
+    ∙ sym (ap (λ i. first_index o entries changes ++ take i (drop k (flat_map (λ e. e) entries))) none ∙ append-nil (first_index o entries changes))
+index_kept o entries changes (suc n) are le =
+    let w = flat_map (λ e. e) entries in
+    let more = changes ++ None ∷ [] in
+    let k = length changes in
+    let long : length more ≡ k + 1 = length-append changes (None ∷ []) in
+    let next : length more * 16 ≡ k * 16 + 16 = omega (arith, long) in
+    let whole : 16 + n * 16 ≡ suc n * 16 = omega arith in
+    ap (first_index o entries) (sym (append_assoc changes (None ∷ []) (replicate n None)))
+    ∙ index_kept o entries more n are (omega (arith, long))
+    ∙ ap (λ i. first_index o entries more ++ slice_range w i (i + n * 16)) next
+    ∙ ap (λ l. l ++ slice_range w (k * 16 + 16) (k * 16 + 16 + n * 16)) (index_more o entries changes None (omega arith) ∙ ap (λ l. first_index o entries changes ++ l) (entry_of entries k are (omega arith)))
+    ∙ append_assoc (first_index o entries changes) (slice_range w (k * 16) (k * 16 + 16)) (slice_range w (k * 16 + 16) (k * 16 + 16 + n * 16))
+    ∙ ap (λ l. first_index o entries changes ++ l) (slice_join w (k * 16) 16 (n * 16) ∙ ap (λ i. slice_range w (k * 16) (k * 16 + i)) whole)
+
+bytes_kept : (changes : List (Option (Option (List ℕ)))) (n : ℕ) → changed_bytes (changes ++ replicate n None) ≡ changed_bytes changes
+bytes_kept changes zero = ap changed_bytes (append-nil changes)
+bytes_kept changes (suc n) =
+    ap changed_bytes (sym (append_assoc changes (None ∷ []) (replicate n None))) ∙ bytes_kept (changes ++ None ∷ []) n ∙ bytes_more changes None ∙ append-nil (changed_bytes changes)
+
+or_kept : (a s y : Bool) → ((a || s) || not y) ≡ (a || not (not s && y))
+or_kept true s y = refl
+or_kept false true y = refl
+or_kept false false y = refl
+
+any_kept : (parts : List (Option (List ℕ))) (changes : List (Option (Option (List ℕ)))) (n : ℕ) → length changes + n ≤ length parts
+    → any_present parts (changes ++ replicate n None) ≡ (any_present parts changes || not (all_absent (take n (drop (length changes) parts))))
+any_kept parts changes zero le = ap (any_present parts) (append-nil changes) ∙ or_false (any_present parts changes)
+any_kept parts changes (suc n) le =
+    let more = changes ++ None ∷ [] in
+    let k = length changes in
+    let long : length more ≡ suc k = length-append changes (None ∷ []) ∙ (let e : k + 1 ≡ suc k = omega arith in e) in
+    let p = get_or parts k None in
+    let rest = take n (drop (suc k) parts) in
+    ap (any_present parts) (sym (append_assoc changes (None ∷ []) (replicate n None)))
+    ∙ any_kept parts more n (omega (arith, long))
+    ∙ ap (λ i. any_present parts more || not (all_absent (take n (drop i parts)))) long
+    ∙ ap (λ b. b || not (all_absent rest)) (any_more parts changes None (omega arith))
+    ∙ or_kept (any_present parts changes) (is_some p) (all_absent rest)
+    ∙ ap (λ l. any_present parts changes || not (all_absent (take (suc n) l))) (sym (drop-cons parts k None (omega arith)))
+
+-- so many more are kept
+pub kept : (old new : ShardPatch) (n start end : ℕ) (any : Bool) → new.base ≡ old.base → new.index ≡ old.index → new.encoded ≡ old.encoded → start ≡ length old.entries.items → end ≡ start + n * 16
+    → new.entries.items ≡ old.entries.items ++ slice_range old.index.items start end → new.any ≡ (old.any || any) → KeepsParts old new n any
+kept old new n start end any base_same index_same encoded_same start_is end_is entries_same any_same = λ count stored parts changes made le any_is is.
+    let s = is_stored count stored parts made in
+    let entries = stored_entries count stored in
+    let o = stored_end count stored in
+    let w = flat_map (λ e. e) entries in
+    let k = length changes * 16 in
+    let at : start ≡ k = start_is ∙ (index_length count stored parts old changes made (omega arith) is).0 in
+    record {
+      base_is = base_same ∙ is.base_is;
+      index_is = ap (λ v. v.items) index_same ∙ is.index_is;
+      encoded_is = ap (λ v. v.items) encoded_same ∙ is.encoded_is ∙ sym (bytes_kept changes n);
+      entries_are = entries_same
+          ∙ ap (λ l. l ++ slice_range old.index.items start end) is.entries_are
+          ∙ ap (λ l. first_index o entries changes ++ slice_range l start end) is.index_is
+          ∙ ap (λ i. first_index o entries changes ++ slice_range w start i) end_is
+          ∙ ap (λ i. first_index o entries changes ++ slice_range w i (i + n * 16)) at
+          ∙ sym (index_kept o entries changes n s.are (let e = s.entry_count in omega arith));
+      any_is = any_same ∙ ap (λ b. b || any) is.any_is ∙ ap (λ b. any_present parts changes || b) any_is ∙ sym (any_kept parts changes n (omega (arith, parts_long count stored parts made)));
+    }
 
 -- ---- the start
 
@@ -211,11 +300,7 @@ module _ (count : ℕ) (stored : Option (List ℕ)) (parts : List (Option (List 
     (all : length changes ≡ count) (made : stored_parts count stored ≡ Some parts) (is : IsPatching count stored parts patch changes) where
   whole_any : patch.any ≡ not (all_absent (changed_parts parts changes))
   whole_any =
-      is.any_is ∙ ap (λ l. not (all_absent (changed_parts l changes))) (ap (λ n. take n parts) (all ∙ sym (parts_count count stored parts made)) ∙ take-length parts)
-    where
-      parts_count : (n : ℕ) (o : Option (List ℕ)) (ps : List (Option (List ℕ))) → stored_parts n o ≡ Some ps → length ps ≡ n
-      parts_count n None ps m = ap length (sym (some_is m)) ∙ length-replicate {A = Option (List ℕ)} n None
-      parts_count n (Some shard) ps m = length-shard_parts false n shard ps m
+      is.any_is ∙ ap (λ l. not (all_absent (changed_parts l changes))) (ap (λ n. take n parts) (all ∙ sym (parts_long count stored parts made)) ∙ take-length parts)
 
   whole_text : patch.encoded.items ++ patch.entries.items ≡ changed_text count stored changes
   whole_text =
@@ -257,11 +342,3 @@ none_ranges shard n ranges is = ap Some (go n ∙ ap (map (range_part shard)) (s
     go : (k : ℕ) → replicate k None ≡ map (range_part shard) (replicate k None)
     go zero = refl
     go (suc k) = ap (λ l. None ∷ l) (go k)
-
-pub or_false : (b : Bool) → b ≡ (b || false)
-or_false true = refl
-or_false false = refl
-
-pub or_true : (b : Bool) → true ≡ (b || true)
-or_true true = refl
-or_true false = refl

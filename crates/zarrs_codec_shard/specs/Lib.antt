@@ -10,3 +10,4 @@ pub mod Shards
 pub mod Steps
 pub mod SubchunkData
 pub mod Subchunks
+pub mod Unmet

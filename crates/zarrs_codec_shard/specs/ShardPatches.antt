@@ -1,6 +1,5 @@
 -- A shard some of whose subchunks get other bytes, subchunk by subchunk.
-use Rattle.std.specs.Prelude.{◌≡◌, ℕ, ◌+◌, ◌<◌, ◌≤◌, Bool, not, Option, None, Some, List, [], ◌∷◌, ◌++◌, length, slice_index_or, take}
-use Rattle.std.specs.Prelude.{is_some}
+use Rattle.std.specs.Prelude.{◌≡◌, ℕ, ◌+◌, ◌*◌, ◌<◌, ◌≤◌, Bool, not, Option, None, Some, List, [], ◌∷◌, ◌++◌, length, take, drop, replicate}
 use Rattle.std.specs.List.{flat_map}
 use Rattle.zarrs_codec_shard.specs.PartialShards.{PartialChange, put, erase, all_absent, changed_bytes, changed_entries, changed_parts}
 use Rattle.zarrs_codec_shard.specs.PartialShards.{stored_end, stored_entries, stored_parts}
@@ -23,13 +22,20 @@ pub record IsPatching (count : ℕ) (stored : Option (List ℕ)) (parts : List (
       ≡ flat_map (λ e. e) (changed_entries (stored_end count stored) (take (length changes) (stored_entries count stored)) changes)
   pub any_is : patch.any ≡ not (all_absent (changed_parts (take (length changes) parts) changes))
 
--- the patch got what becomes of one more subchunk
-abbrev pub PushesChange : (old new : ShardPatch) → (is_present : Bool) → Option (Option (List ℕ)) → Type 0
-PushesChange old new is_present change =
+-- the patch got the new part of one more subchunk
+abbrev pub PushesChange : (old new : ShardPatch) → Option (List ℕ) → Type 0
+PushesChange old new part =
     (count : ℕ) (stored : Option (List ℕ)) (parts : List (Option (List ℕ))) (changes : List (Option (Option (List ℕ))))
     → stored_parts count stored ≡ Some parts → length changes < count
-    → is_present ≡ is_some (slice_index_or parts (length changes) None)
-    → IsPatching count stored parts old changes → IsPatching count stored parts new (changes ++ change ∷ [])
+    → IsPatching count stored parts old changes → IsPatching count stored parts new (changes ++ Some part ∷ [])
+
+-- the patch keeps so many more subchunks
+abbrev pub KeepsParts : (old new : ShardPatch) → (n : ℕ) → (any : Bool) → Type 0
+KeepsParts old new n any =
+    (count : ℕ) (stored : Option (List ℕ)) (parts : List (Option (List ℕ))) (changes : List (Option (Option (List ℕ))))
+    → stored_parts count stored ≡ Some parts → length changes + n ≤ count
+    → any ≡ not (all_absent (take n (drop (length changes) parts)))
+    → IsPatching count stored parts old changes → IsPatching count stored parts new (changes ++ replicate n None)
 
 -- the patch has what it had
 pub record IsSamePatch (old new : ShardPatch) : Type 0 where
@@ -39,6 +45,6 @@ pub record IsSamePatch (old new : ShardPatch) : Type 0 where
   pub entries_are : new.entries.items ≡ old.entries.items
   pub any_is : new.any ≡ old.any
 
--- there is an old entry for one more subchunk
-abbrev pub HasRoom : ShardPatch → Type 0
-HasRoom patch = length patch.entries.items + 16 ≤ length patch.index.items
+-- there are old entries for so many more subchunks
+abbrev pub HasRoom : ShardPatch → (n : ℕ) → Type 0
+HasRoom patch n = length patch.entries.items + n * 16 ≤ length patch.index.items

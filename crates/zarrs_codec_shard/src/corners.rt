@@ -5,7 +5,7 @@ ghost use Rattle.zarrs_subset.specs.Boxes.{position_count, unravel};
 
 use smallvec::SmallVec;
 use std::alloc::{AllocError, Global};
-use zarrs_subset::{ArrayIndices, ArrayIndicesTinyVec};
+use zarrs_subset::ArrayIndicesTinyVec;
 
 /// Where the subchunk of this number starts, of subchunks of the shape `sub`, of which `grid` lie along each dimension.
 /// Nothing is allocated up to four dimensions.
@@ -26,26 +26,6 @@ pub(crate) fn tiny_corner(
 {
     let mut start = SmallVec::from_slice(alloc, sub)?;
     scale_by_index(start.as_mut_slice(), grid, number);
-    Ok(start)
-}
-
-/// The same, as a list.
-///
-/// # Errors
-/// `AllocError`: out of memory.
-pub(crate) fn corner_of(
-    alloc: Global,
-    sub: &[u64],
-    grid: &[u64],
-    number: u64,
-) -> Result<ArrayIndices, AllocError>
-    requires dimensions { length sub.now ≡ length grid.now }
-    requires ends { (k : ℕ) → slice_index grid.now k * slice_index sub.now k < 2 ^ 64 }
-    requires number { number < position_count grid.now }
-    ensures { IfOk result (λ start. start.items ≡ corner sub.now (unravel grid.now number)) }
-{
-    let mut start = Vec::from_slice(alloc, sub)?;
-    scale_by_index(&mut start, grid, number);
     Ok(start)
 }
 

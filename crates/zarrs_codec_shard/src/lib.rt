@@ -17,6 +17,7 @@ pub mod laws;
 mod patch;
 mod shard_index;
 mod subchunks;
+mod unmet;
 
 pub use compact::compact_shard;
 pub use error::CompactError;

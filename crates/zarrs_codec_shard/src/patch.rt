@@ -61,7 +61,7 @@ pub fn stored_ranges(
 
 impl ShardPatch {
     ghost use Rattle.zarrs_codec_shard.specs.ShardPatches.{change_of, HasRoom, IsPatching, IsSamePatch};
-    ghost use Rattle.zarrs_codec_shard.specs.ShardPatches.{PushesChange};
+    ghost use Rattle.zarrs_codec_shard.specs.ShardPatches.{KeepsParts, PushesChange};
 
     /// A shard of `count` subchunks, of which none is pushed, over the one that is stored.
     ///
@@ -111,66 +111,40 @@ impl ShardPatch {
         })
     }
 
-    /// Pushes what becomes of the next subchunk: it stays if `change` is `None`, and else it has these bytes or becomes
-    /// absent. `is_present` says whether it was present.
+    /// Keeps so many of the next subchunks. `any` says whether one of them is present.
     ///
     /// # Errors
     /// `AllocError`: out of memory; the patch is as it was.
-    pub fn push(
-        &mut self,
-        is_present: bool,
-        change: &Option<Option<Vec<u8>>>,
-    ) -> Result<(), AllocError>
-        requires { HasRoom self.old }
-        ensures pushed { IfOk result (λ _. PushesChange self.old self.new is_present
-            (option_map (λ part. option_map (λ bytes. bytes.items) part) change.now)) }
+    pub fn keep(&mut self, count: usize, any: bool) -> Result<(), AllocError>
+        requires { HasRoom self.old count }
+        ensures kept { IfOk result (λ _. KeepsParts self.old self.new count any) }
         ensures refused { IfErr result (λ _. IsSamePatch self.old self.new) }
     {
-        match change {
-            None => self.push_kept(is_present),
-            Some(part) => self.push_part(part),
-        }
+        let start = self.entries.len();
+        let end = start + count * ENTRY_LEN;
+        self.entries.extend_from_slice(&self.index[start..end])?;
+        self.any = either(self.any, any);
+        Ok(())
     }
 
-    /// The next subchunk has these bytes, or is absent.
-    fn push_part(&mut self, part: &Option<Vec<u8>>) -> Result<(), AllocError>
-        ensures pushed { IfOk result (λ _. (is_present : Bool)
-            → PushesChange self.old self.new is_present
-            (Some (option_map (λ bytes. bytes.items) part.now))) }
+    /// The next subchunk has these bytes from now on, or is absent.
+    ///
+    /// # Errors
+    /// `AllocError`: out of memory; the patch is as it was.
+    pub fn push(&mut self, part: &Option<Vec<u8>>) -> Result<(), AllocError>
+        ensures pushed { IfOk result (λ _. PushesChange self.old self.new
+            (option_map (λ bytes. bytes.items) part.now)) }
         ensures refused { IfErr result (λ _. IsSamePatch self.old self.new) }
     {
         match part {
-            None => self.push_absent(),
+            None => self.push_entry(u64::MAX, u64::MAX),
             Some(bytes) => self.push_bytes(bytes),
         }
     }
 
-    /// The next subchunk stays.
-    fn push_kept(&mut self, is_present: bool) -> Result<(), AllocError>
-        requires { HasRoom self.old }
-        ensures pushed { IfOk result (λ _. PushesChange self.old self.new is_present None) }
-        ensures refused { IfErr result (λ _. IsSamePatch self.old self.new) }
-    {
-        let start = self.entries.len();
-        self.entries
-            .extend_from_slice(&self.index[start..start + ENTRY_LEN])?;
-        self.any = either(self.any, is_present);
-        Ok(())
-    }
-
-    /// The next subchunk is absent.
-    fn push_absent(&mut self) -> Result<(), AllocError>
-        ensures pushed { IfOk result (λ _. (is_present : Bool)
-            → PushesChange self.old self.new is_present (Some None)) }
-        ensures refused { IfErr result (λ _. IsSamePatch self.old self.new) }
-    {
-        self.push_entry(u64::MAX, u64::MAX)
-    }
-
     /// The next subchunk has these bytes.
     fn push_bytes(&mut self, bytes: &[u8]) -> Result<(), AllocError>
-        ensures pushed { IfOk result (λ _. (is_present : Bool)
-            → PushesChange self.old self.new is_present (Some (Some bytes.now))) }
+        ensures pushed { IfOk result (λ _. PushesChange self.old self.new (Some bytes.now)) }
         ensures refused { IfErr result (λ _. IsSamePatch self.old self.new) }
     {
         let offset = self.base + self.encoded.len() as u64;

@@ -1,7 +1,7 @@
 //! The subchunks of a chunk.
-ghost use Rattle.std.specs.Prelude.{◌≡◌, ◌*◌, ◌/◌, ◌<◌, ◌≤◌, ◌^◌, true, false, Some, ℕ};
+ghost use Rattle.std.specs.Prelude.{◌≡◌, ◌+◌, ◌*◌, ◌/◌, ◌<◌, ◌≤◌, ◌^◌, true, false, Some, ℕ};
 ghost use Rattle.std.specs.Prelude.{IfErr, IfOk, IfSome, IsSome, MatchOption, length, replicate};
-ghost use Rattle.std.specs.Prelude.{nat_lt, slice_index};
+ghost use Rattle.std.specs.Prelude.{slice_index};
 ghost use Rattle.zarrs_data_type.specs.ArrayData.{data_of, fixed};
 ghost use Rattle.zarrs_data_type.specs.Cells.{cells, HasCells};
 ghost use Rattle.zarrs_data_type.specs.Parts.{ExtractsAt};
@@ -12,12 +12,13 @@ ghost use Rattle.zarrs_data_type.specs.RegionData.{region_data};
 ghost use Rattle.zarrs_codec_shard.specs.Subchunks.{corner, is_cut_by, quotients, subchunk_box, subchunk_count};
 ghost use Rattle.zarrs_subset.specs.Boxes.{position_count, unravel};
 ghost use Rattle.zarrs_subset.specs.Pieces.{piece_at};
-ghost use Rattle.zarrs_subset.specs.Regions.{box_at_origin, box_from, box_of, overlap_of, LiesInBox};
+ghost use Rattle.zarrs_subset.specs.Regions.{box_at_origin, box_of, LiesInBox};
 ghost use Rattle.zarrs_data_type.specs.Cell.{Cell, fill_cell, fill_of, held_size};
 ghost use Rattle.zarrs_data_type.specs.Kind.{kind, cell_size};
 
-use crate::corners::{corner_of, tiny_corner};
+use crate::corners::tiny_corner;
 use crate::shard_index::ShardWriter;
+use crate::unmet::unmet_run;
 use std::alloc::{AllocError, Global};
 use zarrs_data_type::{ArrayBytes, DataType, FillValue, RegionCells};
 use zarrs_subset::{
@@ -177,7 +178,7 @@ impl Subchunks {
         ensures { IfOk result (λ subset. box_of subset
             ≡ subchunk_box (chunk_shape self.now) (subchunk_shape self.now) number) }
     {
-        let start = corner_of(alloc, &self.shape, &self.grid, number)?;
+        let start = Vec::from_slice(alloc, self.start_of(alloc, number)?.as_slice())?;
         let shape = Vec::from_slice(alloc, &self.shape)?;
         Ok(ArraySubset::new(start, shape))
     }
@@ -247,19 +248,19 @@ impl Subchunks {
         )
     }
 
-    /// Whether the part has a position of the subchunk of this number.
-    ///
-    /// # Errors
-    /// `AllocError`: out of memory.
-    pub fn meets(&self, alloc: Global, part: &ArraySubset, number: u64) -> Result<bool, AllocError>
+    /// How many subchunks from this number on surely have no position of the part: none only if it has one of the first.
+    pub fn unmet(&self, part: &ArraySubset, number: u64) -> u64
         requires number { number < subchunk_count (chunk_shape self.now) (subchunk_shape self.now) }
+        requires counted { subchunk_count (chunk_shape self.now) (subchunk_shape self.now) < 2 ^ 64 }
         requires dimensions { length (box_of part.now).start ≡ length (chunk_shape self.now) }
-        ensures { IfOk result (λ meets. meets ≡ is_met (chunk_shape self.now)
-            (subchunk_shape self.now) (box_of part.now) number) }
+        ensures within { number + result
+            ≤ subchunk_count (chunk_shape self.now) (subchunk_shape self.now) }
+        ensures unmet { (j : ℕ) → number ≤ j → j < number + result → is_met (chunk_shape self.now)
+            (subchunk_shape self.now) (box_of part.now) j ≡ false }
+        ensures met { result ≡ 0 → is_met (chunk_shape self.now) (subchunk_shape self.now)
+            (box_of part.now) number ≡ true }
     {
-        // Nothing is allocated: it is asked of each subchunk of a shard.
-        let _ = alloc;
-        Ok(meets_subchunk(part, &self.shape, &self.grid, number))
+        unmet_run(part, &self.shape, &self.grid, number)
     }
 
     /// The cells of the subchunk of this number, those of the part where it has the position.
@@ -435,32 +436,6 @@ fn blank_len(data_type: &DataType) -> usize
         Some(_) => 1,
         None => data_type.element_size().unwrap_or(0),
     }
-}
-
-/// Whether a box has a position of the subchunk of this number, of subchunks of the shape `sub`, of which `grid` lie along
-/// each dimension.
-#[inline]
-fn meets_subchunk(part: &ArraySubset, sub: &[u64], grid: &[u64], number: u64) -> bool
-    requires same_length { length sub.now ≡ length grid.now }
-    requires dimensions { length (box_of part.now).start ≡ length grid.now }
-    requires ends { (k : ℕ) → slice_index grid.now k * slice_index sub.now k < 2 ^ 64 }
-    requires number { number < position_count grid.now }
-    ensures { result ≡ nat_lt 0 (position_count (overlap_of
-        (box_from (corner sub.now (unravel grid.now number)) sub.now) (box_of part.now)).shape) }
-{
-    let (start, shape) = (part.start(), part.shape());
-    let mut rest = number;
-    let mut axis = grid.len();
-    while axis > 0 {
-        axis -= 1;
-        let first = rest % grid[axis] * sub[axis];
-        rest /= grid[axis];
-        let end = (first + sub[axis]).min(start[axis] + shape[axis]);
-        if end <= first.max(start[axis]) {
-            return false;
-        }
-    }
-    true
 }
 
 /// Whether a chunk of the first shape is cut into whole subchunks of the second.

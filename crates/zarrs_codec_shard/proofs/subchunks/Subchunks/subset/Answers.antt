@@ -1,4 +1,4 @@
-use Rattle.std.proofs.Common.{◌≡◌, ℕ, ◌*◌, ◌<◌, ◌^◌, length, sym, ap, subst, ◌∙◌, arith}
+use Rattle.std.proofs.Common.{◌≡◌, ℕ, ◌*◌, ◌<◌, ◌^◌, length, sym, ap, subst, ◌∙◌, arith, rules}
 use Rattle.std.specs.Prelude.{slice_index}
 use Rattle.zarrs_subset.specs.Boxes.{unravel, EndsFit}
 use Rattle.zarrs_subset.specs.Regions.{box_from}
@@ -10,31 +10,14 @@ use Rattle.zarrs_codec_shard.proofs.Grids.{cut_len}
 use Rattle.zarrs_codec_shard.proofs.SubchunkBoxes.{ends_fit, long_corner}
 use Rattle.zarrs_codec_shard.proofs.subchunks.Subchunks.subset.Goals as goal
 
-pub corner_of-requires-clause-dimensions : goal.corner_of-requires-clause-dimensions
-corner_of-requires-clause-dimensions c =
-    let self = c.args.self.now in
-    let long = cut_len (chunk_shape self) (subchunk_shape self) self.cut in
-    ap length c.deref.ensures.value ∙ long.0 ∙ sym long.1 ∙ ap length (sym (c.deref-2.ensures.value ∙ self.grid_is))
-
-pub corner_of-requires-clause-ends : goal.corner_of-requires-clause-ends
-corner_of-requires-clause-ends c =
-    let self = c.args.self.now in
-    let s = chunk_shape self in
-    let sub = subchunk_shape self in
-    subst (λ g. (k : ℕ) → slice_index g k * slice_index c.deref.result.now k < 2 ^ 64) (sym (c.deref-2.ensures.value ∙ self.grid_is))
-    (subst (λ x. (k : ℕ) → slice_index (quotients s sub) k * slice_index x k < 2 ^ 64) (sym c.deref.ensures.value)
-    (λ k. omega (arith, starts_fit s sub k self.cut, self.chunk_box.ends_fit k)))
-
 pub new-requires-clause-same_length : goal.new-requires-clause-same_length
 new-requires-clause-same_length c =
     let self = c.args.self.now in
     let s = chunk_shape self in
     let sub = subchunk_shape self in
     let i = unravel (quotients s sub) c.args.number in
-    let start : c.in_ok-start.start.items ≡ corner sub i =
-    c.in_ok-start.ensures ∙ ap (λ x. corner x (unravel c.deref-2.result.now c.args.number)) c.deref.ensures.value
-    ∙ ap (λ g. corner sub (unravel g c.args.number)) (c.deref-2.ensures.value ∙ self.grid_is) in
-    ap length start ∙ long_corner s sub i self.cut (unravel_in (quotients s sub) c.args.number c.requires) ∙ ap length (sym (c.in_ok-shape.ensures.items ∙ c.deref-3.ensures.value))
+    let start : c.in_ok-start.start.items ≡ corner sub i = search rules in
+    ap length start ∙ long_corner s sub i self.cut (unravel_in (quotients s sub) c.args.number c.requires) ∙ ap length (sym (c.in_ok-shape.ensures.items ∙ c.deref.ensures.value))
 
 pub new-requires-clause-ends_fit : goal.new-requires-clause-ends_fit
 new-requires-clause-ends_fit c =
@@ -42,12 +25,10 @@ new-requires-clause-ends_fit c =
     let s = chunk_shape self in
     let sub = subchunk_shape self in
     let i = unravel (quotients s sub) c.args.number in
-    let start : c.in_ok-start.start.items ≡ corner sub i =
-    c.in_ok-start.ensures ∙ ap (λ x. corner x (unravel c.deref-2.result.now c.args.number)) c.deref.ensures.value
-    ∙ ap (λ g. corner sub (unravel g c.args.number)) (c.deref-2.ensures.value ∙ self.grid_is) in
+    let start : c.in_ok-start.start.items ≡ corner sub i = search rules in
     let small : (k : ℕ) → slice_index s k < 2 ^ 64 = λ k. omega (arith, self.chunk_box.ends_fit k) in
     subst (λ x. EndsFit x c.in_ok-shape.shape.items) (sym start)
-    (subst (EndsFit (corner sub i)) (sym (c.in_ok-shape.ensures.items ∙ c.deref-3.ensures.value))
+    (subst (EndsFit (corner sub i)) (sym (c.in_ok-shape.ensures.items ∙ c.deref.ensures.value))
     (ends_fit s sub i self.cut (unravel_in (quotients s sub) c.args.number c.requires) small))
 
 pub returns : goal.returns
@@ -56,7 +37,5 @@ returns c =
     let s = chunk_shape self in
     let sub = subchunk_shape self in
     let i = unravel (quotients s sub) c.args.number in
-    let start : c.in_ok-start.start.items ≡ corner sub i =
-    c.in_ok-start.ensures ∙ ap (λ x. corner x (unravel c.deref-2.result.now c.args.number)) c.deref.ensures.value
-    ∙ ap (λ g. corner sub (unravel g c.args.number)) (c.deref-2.ensures.value ∙ self.grid_is) in
-    c.new.ensures ∙ ap (λ x. box_from x c.in_ok-shape.shape.items) start ∙ ap (box_from (corner sub i)) (c.in_ok-shape.ensures.items ∙ c.deref-3.ensures.value)
+    let start : c.in_ok-start.start.items ≡ corner sub i = search rules in
+    c.new.ensures ∙ ap (λ x. box_from x c.in_ok-shape.shape.items) start ∙ ap (box_from (corner sub i)) (c.in_ok-shape.ensures.items ∙ c.deref.ensures.value)
