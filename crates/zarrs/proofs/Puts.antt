@@ -56,7 +56,7 @@ put_last puts old new so = subst (λ (ps : List Put). ArePut ps old new) (sym (s
 
 -- what may be asked stays
 pub reach_after : (puts : List Put) (old new : StoreState) → ArePut puts old new → KeepsReach old new
-reach_after [] old new same = subst (λ (s : StoreState). KeepsReach old s) (sym same) (record { may_ask = λ key. refl; may_read = λ key place. refl; sets_parts = refl; lenders = refl; parts = refl })
+reach_after [] old new same = subst (λ (s : StoreState). KeepsReach old s) (sym same) (record { refuses = λ key. refl; may_ask = λ key. refl; may_read = λ key place. refl; sets_parts = refl; lenders = refl; parts = refl })
 reach_after (p ∷ puts) old new first = reach_on old first.middle new first.first.makes.reach (reach_after puts first.middle new first.others)
 
 pub may_ask_after : (version : MetadataRetrieveVersion) (path : List ℕ) (old new : StoreState) → MayAskEachMetadata old path → KeepsReach old new → MayAskMetadata version new path

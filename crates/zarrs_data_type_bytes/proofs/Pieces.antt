@@ -1,5 +1,5 @@
 -- Bytes cut into pieces of one size, and put together again.
-use Rattle.std.proofs.Common.{◌≡◌, ℕ, zero, suc, ◌+◌, ◌-◌, ◌*◌, ◌/◌, ◌%◌, ◌<◌, ◌≤◌, ◌==◌, Bool, true, false, List, []}
+use Rattle.std.proofs.Common.{◌≡◌, ℕ, zero, suc, ◌+◌, ◌-◌, ◌*◌, ◌<◌, ◌≤◌, ◌==◌, Bool, true, false, List, []}
 use Rattle.std.proofs.Common.{◌∷◌, ◌++◌, length, map, take, drop, get_or, replicate, ◌&&◌, refl, sym, ap, ◌∙◌, arith}
 use Rattle.std.proofs.Common.{append_assoc, append-nil}
 use Rattle.std.specs.Prelude.{slice_range}
@@ -9,8 +9,7 @@ use Rattle.std.proofs.lemmas.Bool.{eqb-true, and_parts}
 use Rattle.std.proofs.lemmas.List.{length-append, length-drop, length-take-le, take_at, take_all, take_more}
 use Rattle.std.proofs.lemmas.List.Folds.{list_all-append}
 use Rattle.std.proofs.lemmas.List.FromFn.{length-map-range_with_len, get_or-map-range_with_len, map-range_with_len_more, fill_by_all}
-use Rattle.std.proofs.lemmas.Nat.{div-add-mod'}
-use Rattle.std.proofs.Math.Nat.{suc-mul, mul-le-mul_right, mul-div-mul_right, mod-lt, mul_assoc, add-mul}
+use Rattle.std.proofs.Math.Nat.{suc-mul, mul-le-mul_right}
 use Rattle.std.proofs.Math.Seq.{take-add, drop-append-add}
 use borrow.Author.Count.{below_more}
 use Rattle.zarrs_subset.specs.Pieces.{pieces}
@@ -129,13 +128,22 @@ repeat_add p (suc m) n =
     let e : suc m + n ≡ suc (m + n) = omega arith in
     ap (λ k. repeat k p) e ∙ ap (λ l. p ++ l) (repeat_add p m n) ∙ sym (append_assoc p (repeat m p) (repeat n p))
 
--- as many repetitions again
-pub repeat_twice : (p half both : List ℕ) (len m n : ℕ) → half ≡ repeat m p → both ≡ half ++ slice_range half 0 len → length half ≤ len → n ≡ m + m → both ≡ repeat n p
-repeat_twice p half both len m n is twice whole sum =
-    twice
-    ∙ ap (λ l. half ++ l) (take_all (len - 0) half (omega arith))
-    ∙ ap (λ l. l ++ l) is
-    ∙ sym (repeat_add p m m)
+-- the front of what is repeated
+take_repeated : (p : List ℕ) (m n : ℕ) → n ≤ m → take (n * length p) (repeat m p) ≡ repeat n p
+take_repeated p m n le =
+    let sum : m ≡ n + (m - n) = omega arith in
+    ap (λ k. take (n * length p) (repeat k p)) sum
+    ∙ ap (take (n * length p)) (repeat_add p n (m - n))
+    ∙ take_at (repeat n p) (repeat (m - n) p) (n * length p) (length-repeat p n)
+
+-- a few repetitions more, of those that stand
+pub repeat_upto : (p made longer : List ℕ) (m more len n : ℕ) → made ≡ repeat m p → longer ≡ made ++ slice_range made 0 len → len ≡ more * length p → more ≤ m → n ≡ m + more → longer ≡ repeat n p
+repeat_upto p made longer m more len n is added size few sum =
+    let whole : len - 0 ≡ more * length p = omega (arith, size) in
+    added
+    ∙ ap (λ l. made ++ l) (ap (λ k. take k made) whole ∙ ap (take (more * length p)) is ∙ take_repeated p m more few)
+    ∙ ap (λ l. l ++ repeat more p) is
+    ∙ sym (repeat_add p m more)
     ∙ ap (λ k. repeat k p) (sym sum)
 
 -- no bytes, again and again
@@ -169,40 +177,6 @@ repeat_same x p (suc n) is =
     ∙ replicate_add x (length p) (n * length p)
     ∙ ap (λ l. l ++ replicate (n * length p) x) (sym (all_same x p is))
     ∙ ap (λ l. p ++ l) (repeat_same x p n is)
-
-repeat_repeat : (p : List ℕ) (m n : ℕ) → repeat n (repeat m p) ≡ repeat (n * m) p
-repeat_repeat p m zero = let e : 0 ≡ zero * m = omega arith in ap (λ k. repeat k p) e
-repeat_repeat p m (suc n) =
-    let e : m + n * m ≡ suc n * m = omega (arith, suc-mul n m) in
-    ap (λ l. repeat m p ++ l) (repeat_repeat p m n) ∙ sym (repeat_add p m (n * m)) ∙ ap (λ k. repeat k p) e
-
--- the front of what is repeated
-take_repeated : (p : List ℕ) (m n : ℕ) → n ≤ m → take (n * length p) (repeat m p) ≡ repeat n p
-take_repeated p m n le =
-    let sum : m ≡ n + (m - n) = omega arith in
-    ap (λ k. take (n * length p) (repeat k p)) sum
-    ∙ ap (take (n * length p)) (repeat_add p n (m - n))
-    ∙ take_at (repeat n p) (repeat (m - n) p) (n * length p) (length-repeat p n)
-
--- blocks of m pieces, the last one cut, are the pieces
-pub repeat_blocks : (p block : List ℕ) (m n len : ℕ) → 0 < m → 0 < length p → block ≡ repeat m p → len ≡ n * length p
-    → repeat (len / length block) block ++ take (len % length block) block ≡ repeat n p
-repeat_blocks p block m n len some wide is bytes =
-    let w = length p in
-    let width : length block ≡ m * w = ap length is ∙ length-repeat p m in
-    let whole : len / length block ≡ n / m =
-    ap (λ k. k / length block) bytes ∙ ap (λ k. n * w / k) width ∙ mul-div-mul_right n m wide in
-    let split : n / m * m + n % m ≡ n = div-add-mod' n m in
-    let rest : len % length block ≡ n % m * w =
-    omega (arith, div-add-mod' len (length block), ap (λ k. k * length block) whole, ap (λ k. n / m * k) width, mul_assoc (n / m) m w, add-mul (n / m * m) (n % m) w, ap (λ k. k * w) split) in
-    let below = mod-lt n some in
-    ap (λ k. repeat k block ++ take (len % length block) block) whole
-    ∙ ap (λ k. repeat (n / m) block ++ take k block) rest
-    ∙ ap (λ l. repeat (n / m) l ++ take (n % m * w) l) is
-    ∙ ap (λ l. l ++ take (n % m * w) (repeat m p)) (repeat_repeat p m (n / m))
-    ∙ ap (λ l. repeat (n / m * m) p ++ l) (take_repeated p m (n % m) (omega arith))
-    ∙ sym (repeat_add p (n / m * m) (n % m))
-    ∙ ap (λ k. repeat k p) split
 
 and_true : (x : Bool) → (x && true) ≡ x
 and_true true = refl

@@ -59,6 +59,8 @@ pub trait Element: Drop {
         ensures cells { IfOk result (λ made. cells (kind data_type.now) (data_of made)
             ≡ Some (map cell elements.old.items)) }
         ensures served { OnOk result (serves (kind data_type.now) ≡ true) }
+        ensures kept { serves (kind data_type.now) ≡ false
+            → elements.new.items ≡ elements.old.items }
         ensures refused { IfErr result (RefusesElement (serves (kind data_type.now))) }
     {
         let made = Self::to_array_bytes(alloc, data_type, elements)?;

@@ -1,6 +1,6 @@
 //! Fill values as metadata says them, both ways.
 ghost use Rattle.std.specs.Prelude.{◌≡◌, [], ◌∷◌, ◌++◌, true, Some, None, nat_lt, length};
-ghost use Rattle.std.specs.Prelude.{option_map, if◌then◌else◌, IfOk, IfErr, IfSome, IsSome};
+ghost use Rattle.std.specs.Prelude.{option_map, if◌then◌else◌, IfOk, IfErr, IfSome, IsSome, OnOk};
 ghost use Rattle.std.specs.List.{list_all};
 ghost use Rattle.std.specs.Str.{is_utf8};
 ghost use Rattle.serde_json.specs.Data.{string, array, item, no_items};
@@ -319,6 +319,7 @@ impl DataType {
     ) -> Result<FillValueMetadata, DataTypeFillValueError>
         ensures written { IfOk result (λ m.
             fill_data m ≡ fill_written (kind self.now) fill_value.now) }
+        ensures value { OnOk result (IsSome (fill_cell (kind self.now) fill_value.now)) }
         ensures refused { IfErr result (RefusesFill (fill_cell (kind self.now) fill_value.now)) }
     {
         if !fill_value.is_value_of(self) {

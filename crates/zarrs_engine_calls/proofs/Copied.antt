@@ -136,7 +136,7 @@ module _ (layout : Layout) (was_a now_a was_b : StoreState) where
     within = front.within;
     untouched = λ none. ap (λ n. copied layout.key (value_at now_a) (take n chunks) was_b.values) none;
     changes = λ some. step (front.changes some);
-    makes = record { calls = refl; failures = refl; reach = record { may_ask = λ key. refl; may_read = λ key place. refl; sets_parts = refl; lenders = refl; parts = refl } };
+    makes = record { calls = refl; failures = refl; reach = record { refuses = λ key. refl; may_ask = λ key. refl; may_read = λ key place. refl; sets_parts = refl; lenders = refl; parts = refl } };
   }
 
   copied_alike : (chunks : List (List ℕ)) (done failed : ℕ) → ChangesKeysOf layout (take done chunks) was_a now_a → SameOrKept was_a was_b now_a (now_b chunks done failed)
@@ -676,7 +676,7 @@ module _ (layout : Layout) (lawful : IsLawful layout) (keep : Bool) (index : Lis
           put = record {
             held = copied_here layout.key (value_at now_a) (index ∷ []) b.values index (member index) ∙ c.put.held;
             others = λ other apart. copied_others layout.key (value_at now_a) (index ∷ []) b.values other (λ i among is. apart (is ∙ ap layout.key (only_member index i among)));
-            makes = record { calls = refl; failures = refl; reach = record { may_ask = λ key. refl; may_read = λ key place. refl; sets_parts = refl; lenders = refl; parts = refl } };
+            makes = record { calls = refl; failures = refl; reach = record { refuses = λ key. refl; may_ask = λ key. refl; may_read = λ key place. refl; sets_parts = refl; lenders = refl; parts = refl } };
           };
         },
         record {

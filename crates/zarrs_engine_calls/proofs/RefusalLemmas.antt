@@ -96,7 +96,7 @@ codec_said coded.SizeOverflow = refl
 codec_said coded.OutOfMemory = refl
 
 pub same_reach : (state : StoreState) → KeepsReach state state
-same_reach state = record { may_ask = λ key. refl; may_read = λ key place. refl; sets_parts = refl; lenders = refl; parts = refl }
+same_reach state = record { refuses = λ key. refl; may_ask = λ key. refl; may_read = λ key place. refl; sets_parts = refl; lenders = refl; parts = refl }
 
 -- no writing call
 pub makes_none : (state : StoreState) → Makes 0 0 state state

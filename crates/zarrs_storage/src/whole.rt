@@ -1,5 +1,5 @@
 //! `WholeRefused`: a store that refuses to read whole values.
-ghost use Rattle.std.specs.Prelude.{◌≡◌, ◌+◌, ◌<◌, true, length, codes, IfOk, IfErr, IsErr};
+ghost use Rattle.std.specs.Prelude.{◌≡◌, true, codes, IfOk, IfErr, IsErr};
 ghost use Rattle.std.specs.FinMap as map;
 ghost use Rattle.zarrs_storage.specs.Store.{MayReadWhole, MayReadRange};
 ghost use Rattle.zarrs_storage.specs.Store.{PassesValue, is_listed, value_range, size_at, with_part};
@@ -111,7 +111,6 @@ impl<S: WritableStorageTraits> WritableStorageTraits for WholeRefused<S> {
     ) -> Result<(), StorageError>
         ensures writes { WholeWrites part_of_value S.ReadableStorageTraits.state
             (λ values. with_part values key.now offset bytes.now) self.old self.new result }
-        ensures passing { usize.MAX < offset + length bytes.now → IsErr result }
         ensures rule { whole_keys self.new ≡ whole_keys self.old }
     {
         self.store.set_partial(alloc, key, offset, bytes)

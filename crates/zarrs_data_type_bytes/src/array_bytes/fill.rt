@@ -38,57 +38,25 @@ fn repeated_byte(alloc: Global, byte: u8, count: usize) -> Result<Vec<u8>, Alloc
     vec![in alloc; byte; count]
 }
 
-/// `piece`, repeated `count` times: a block of pieces, and its copies.
+/// `piece`, repeated `count` times: each turn copies all that is there, or a block of it.
 fn repeated_piece(alloc: Global, piece: &[u8], count: usize) -> Result<Vec<u8>, AllocError>
     requires some { 0 < length piece.now }
     requires size { count * length piece.now < 2 ^ 64 }
     ensures { IfOk result (λ bytes. bytes.items ≡ repeat count piece.now) }
 {
-    let block_count = (BLOCK_LEN / piece.len()).max(1).min(count);
-    let block = block_of(alloc, piece, block_count)?;
-    if block_count == count {
-        return Ok(block);
-    }
-    block_copies(alloc, block.as_slice(), count * piece.len())
-}
-
-fn block_of(alloc: Global, piece: &[u8], count: usize) -> Result<Vec<u8>, AllocError>
-    requires { count * length piece.now < 2 ^ 64 }
-    ensures { IfOk result (λ bytes. bytes.items ≡ repeat count piece.now) }
-{
-    let bytes = Vec::with_capacity(alloc, count * piece.len())?;
-    put_repeated(bytes, piece, count)
-}
-
-/// `len` bytes: the block repeated, the last one cut.
-fn block_copies(alloc: Global, block: &[u8], len: usize) -> Result<Vec<u8>, AllocError>
-    requires { 0 < length block.now }
-    ensures { IfOk result (λ bytes. bytes.items ≡ repeat (len / length block.now) block.now
-        ++ take (len % length block.now) block.now) }
-{
-    let mut bytes = Vec::with_capacity(alloc, len)?;
-    for _done in 0..len / block.len() {
-        bytes.extend_from_slice(block)?;
-    }
-    bytes.extend_from_slice(&block[..len % block.len()])?;
-    Ok(bytes)
-}
-
-/// Puts `piece`, repeated `count` times, into the empty vector. Each half is a copy of the one before. (The vector is
-/// moved, not lent: so `extend_from_within` copies many bytes at a time.)
-fn put_repeated(bytes: Vec<u8>, piece: &[u8], count: usize) -> Result<Vec<u8>, AllocError>
-    requires { bytes.items ≡ [] }
-    ensures { IfOk result (λ made. made.items ≡ repeat count piece.now) }
-{
+    let mut bytes = Vec::with_capacity(alloc, count * piece.len())?;
     if count == 0 {
         return Ok(bytes);
     }
-    let mut made = put_repeated(bytes, piece, count / 2)?;
-    made.extend_from_within(..)?;
-    if count % 2 == 1 {
-        made.extend_from_slice(piece)?;
+    bytes.extend_from_slice(piece)?;
+    let block = (BLOCK_LEN / piece.len()).max(1);
+    let mut pieces = 1;
+    while pieces < count {
+        let more = pieces.min(block).min(count - pieces);
+        bytes.extend_from_within(..more * piece.len())?;
+        pieces += more;
     }
-    Ok(made)
+    Ok(bytes)
 }
 
 /// `string`, repeated `count` times.

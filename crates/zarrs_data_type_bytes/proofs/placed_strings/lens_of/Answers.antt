@@ -1,7 +1,6 @@
 use Rattle.std.proofs.Common.{◌≡◌, ◌+◌, ◌-◌, ◌<◌, ◌++◌, ◌∷◌, [], ℕ, List, length, map, take, ap, sym, ◌∙◌, arith}
 use Rattle.std.specs.Prelude.{slice_index, slice_index_or}
 use Rattle.std.proofs.lemmas.List.{map_more}
-use Rattle.zarrs_data_type_bytes.specs.Offsets.{offsets_of}
 use Rattle.zarrs_data_type_bytes.proofs.Cuts.{length-cuts, next_cut}
 use Rattle.zarrs_data_type_bytes.proofs.placed_strings.lens_of.Goals as goal
 
