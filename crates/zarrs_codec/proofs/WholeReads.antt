@@ -61,8 +61,7 @@ module _ (codec : ShardingCodec) (t : CellType) (r : ShardRead) (is : IsOpen r) 
         let full : 0 < position_count r.sub = count_some r.sub (λ k lt none. let some = (cut_at r.shape r.sub k is.cut (omega arith)).1 in omega arith) in
         let q = unravel r.sub 0 in
         let q_in : InShape r.sub q = unravel_in r.sub 0 full in
-        let p = offset_by (corner r.sub i) q in
-        (
+        let p = offset_by (corner r.sub i) q in (
           p,
           ap (λ (b : Box). in_box b p) part_is ∙ holds_chunk r.shape p (position_inside r.shape r.sub i q is.cut at.in_grid q_in),
           (parts_of_position r.shape r.sub i q is.cut at.in_grid q_in).0,

@@ -220,12 +220,11 @@ only_met s sub start extents part cut long lies start_len extents_len each some 
     first_met (slice_index part.start k) (slice_index part.shape k) (slice_index sub k) (slice_index start k) (slice_index extents k) (slice_index index k) (slice_index p k)
     (cut_at s sub k cut (omega arith)).1 (some_extent part.shape k 0 (omega (arith, long)) some) (each k lt) (at.from k (omega arith)) (at.below k (omega arith))
     (zip_with-at (λ a b. max a b) part.start C k (omega arith) (omega arith) ∙ ap (max (slice_index part.start k)) (zip_with-at (λ c i. i * c) sub index k lt (omega arith))) in
-    let wide = length-zip_with (λ n c. n / c) p sub (p_len ∙ part_len) in
-    (
+    let wide = length-zip_with (λ n c. n / c) p sub (p_len ∙ part_len) in (
       p,
       along_holds part p long (record { same_length = p_len; from = λ k lt. (here k (omega arith)).0; below = λ k lt. (here k (omega arith)).1 }),
       same_number_lists (quotients p sub) index (wide ∙ p_len ∙ part_len ∙ index_len)
-      (λ k lt. zip_with-at (λ n c. n / c) p sub k (omega arith) (omega arith) ∙ (here k (omega arith)).2),
+          (λ k lt. zip_with-at (λ n c. n / c) p sub k (omega arith) (omega arith) ∙ (here k (omega arith)).2),
     )
 
 -- one dimension more
