@@ -216,11 +216,13 @@ module _ {S G K C : Type 0} {g : GridMeaning G} {k : KeyMeaning K} {c : ChainMea
   PatchesPartOrRefuses state keep asked index part held old =
       Writes refusal_of state (PatchesPart (layout_of old) keep asked index part held) (RefusesPatchPart (layout_of old) keep asked index part held) old
 
-  -- a part of a chunk that an encoder writes
-  abbrev pub EncodesPartOrRefuses : (S → StoreState) → Bool → List ℕ → Box → ArrayData
-      → Engine S G K C g k c → Engine S G K C g k c → Result (Unit {0}) ArrayError → Type 0
-  EncodesPartOrRefuses state keep index part held old =
-      Writes refusal_of state (EncodesPart (layout_of old) keep index part held) (RefusesEncodePart (layout_of old) keep index part held) old
+  -- a part of a chunk that an encoder writes: it is written, or refused, as it is where the store refuses the key of the chunk
+  pub record EncodesPartOrRefuses (state : S → StoreState) (keep : Bool) (index : List ℕ) (part : Box) (held : ArrayData)
+      (old new : Engine S G K C g k c) (result : Result (Unit {0}) ArrayError) : Type 0 where
+    pub done : OnOk result (EncodesPart (layout_of old) keep index part held (store_of state old) (store_of state new))
+    pub refused : IfErr result (λ e. RefusesEncodePart (layout_of old) keep index part held (refusal_of e) (store_of state old) (store_of state new))
+    pub refusing : (store_of state old).refuses ((layout_of old).key index) ≡ true → IsErr result
+    pub layout_kept : KeepsLayout old new
 
   -- a store over a part of a chunk with these options: the whole chunk is stored if no part is written by itself
   pub record StoresPartAs (state : S → StoreState) (options : CodecOptions) (index : List ℕ) (part : Box) (held : ArrayData)
