@@ -215,8 +215,9 @@ fn stored_by<S: ReadableStorageTraits>(
 /// are those of a V2 array, if they are present.
 ///
 /// # Errors
-/// E23 if the store refuses a key that is asked, and for a value there that is no such document; E24 if the metadata is
-/// absent; E12 for an additional field of a V3 document that must be understood. E26 may come at any time.
+/// E23 if the store refuses a key that is asked, and, as an `InvalidMetadata` of this key, for a value there that is no
+/// such document; E24 if the metadata is absent; E12 for an additional field of a V3 document that must be understood.
+/// E26 may come at any time.
 pub fn stored_metadata<S: ReadableStorageTraits>(
     alloc: Global,
     storage: &S,
