@@ -1,6 +1,7 @@
 //! Why stored bytes are no document of a V3 array, as a text for people. It is made only once a document was refused.
 ghost use Rattle.std.specs.Prelude.{◌≡◌, false, is_some, unwrap_or, option_map, option_and_then};
-ghost use Rattle.std.specs.Prelude.{result_ok, IfOk, IfErr, IsErr};
+ghost use Rattle.std.specs.Prelude.{IfOk, IfErr, IsErr};
+ghost use Rattle.std.specs.Result.{result_ok};
 ghost use Rattle.serde_json.specs.Find.{as_object};
 ghost use Rattle.serde_json.specs.View.{view, items_view, members_view};
 ghost use Rattle.serde_json.specs.Written.{members_have_float};
@@ -103,7 +104,7 @@ pub fn float_reason(
 /// `AllocError`: out of memory.
 pub fn type_reason(alloc: Global, name: Option<&str>) -> Result<Option<String>, AllocError>
     ensures { IfOk result (λ reason. is_some reason
-        ≡ unwrap_or (option_map (λ text. is_unsupported_type text.now) name) false) }
+        ≡ unwrap_or (option_map (λ text. is_unsupported_type text.now) name.entry) false) }
 {
     let Some(name) = name else {
         return Ok(None);
