@@ -75,7 +75,7 @@ returns-in_default g c =
     let compares = compares_content (layout_of a) (layout_of b) one two chunks a.layout.lawful b.layout.lawful long in
     let equal : HoldSameChunks (layout_of a) (layout_of b) one two chunks = search rules in
     let asked : ReadBothKeys (layout_of a) (layout_of b) one two chunks = search rules in
-    record { equal = equal; different = tt; content = compares true equal tt; asked = asked; counted = ?; refused = tt }
+    record { equal = equal; different = tt; content = compares true equal tt; asked = asked; counted = (let h = c.num_elements.type_inv in ?); refused = tt }
 
 pub returns-then-not-branch : goal.returns-then-not-branch
 returns-then-not-branch g c =
