@@ -1,4 +1,4 @@
-use Rattle.std.proofs.Common.{◌≡◌, ◌∙◌, ◌+◌, true, false, Some, slice_get, length, rules, refl, subst, sym, inl, arith}
+use Rattle.std.proofs.Common.{◌≡◌, ◌∙◌, ◌+◌, ◌<◌, ◌^◌, true, false, Some, Ok, Err, slice_get, length, rules, refl, subst, sym, inl, arith}
 use Rattle.std.proofs.lemmas.Bool.{false≢true}
 use Rattle.std.proofs.lemmas.Option.{slice_get_within}
 use Rattle.zarrs_subset.specs.Regions.{Box, box_of, positions}
@@ -75,7 +75,13 @@ returns-in_default g c =
     let compares = compares_content (layout_of a) (layout_of b) one two chunks a.layout.lawful b.layout.lawful long in
     let equal : HoldSameChunks (layout_of a) (layout_of b) one two chunks = search rules in
     let asked : ReadBothKeys (layout_of a) (layout_of b) one two chunks = search rules in
-    record { equal = equal; different = tt; content = compares true equal tt; asked = asked; counted = (let h = c.num_elements.type_inv in ?); refused = tt }
+    let many = length-positions range.start range.shape c.args.chunks.now.same_length in
+    let small = sym c.is_err.ensures.value ∙ c.if-is_err.false in
+    let counted : length chunks < 2 ^ 64 = elim c.num_elements.result as (λ r. c.num_elements.result ≡ r → length chunks < 2 ^ 64) [
+      | Ok n ↦ λ is. (let own = rw is at c.num_elements.type_inv in let count = rw is at c.num_elements.ensures.ok in omega (arith, own, count, many))
+      | Err e ↦ λ is. absurd (false≢true (sym (rw is at small)))
+    ] refl in
+    record { equal = equal; different = tt; content = compares true equal tt; asked = asked; counted = counted; refused = tt }
 
 pub returns-then-not-branch : goal.returns-then-not-branch
 returns-then-not-branch g c =
@@ -92,7 +98,13 @@ returns-then-not-branch g c =
     let index = c.current.result.now in
     let at = subst (λ (b : Box). slice_get (positions b) n ≡ Some index) i.same_box c.current.ensures in
     let different : DifferInChunk (layout_of a) (layout_of b) one two chunks = (index, at_among chunks n index at, λ same. false≢true (sym c.if-not-branch.true ∙ c.in_ok-chunk_equal.ensures.equal.1 same), c.in_ok-chunk_equal.ensures.asked_a, c.in_ok-chunk_equal.ensures.asked_b) in
-    record { equal = tt; different = different; content = compares false tt different; asked = tt; counted = ?; refused = tt }
+    let many = length-positions range.start range.shape c.args.chunks.now.same_length in
+    let small = sym c.is_err.ensures.value ∙ c.if-is_err.false in
+    let counted : length chunks < 2 ^ 64 = elim c.num_elements.result as (λ r. c.num_elements.result ≡ r → length chunks < 2 ^ 64) [
+      | Ok n ↦ λ is. (let own = rw is at c.num_elements.type_inv in let count = rw is at c.num_elements.ensures.ok in omega (arith, own, count, many))
+      | Err e ↦ λ is. absurd (false≢true (sym (rw is at small)))
+    ] refl in
+    record { equal = tt; different = different; content = compares false tt different; asked = tt; counted = counted; refused = tt }
 
 pub returns-then-not-advance : goal.returns-then-not-advance
 returns-then-not-advance g c =
@@ -113,7 +125,13 @@ returns-then-not-advance g c =
     (same_more (layout_of a) (layout_of b) one two chunks n (n + 1) index refl at i.same (c.in_ok-chunk_equal.ensures.equal.0 c.if-not-branch.false)) in
     let asked = both_all (layout_of a) (layout_of b) one two chunks (n + 1) last
     (both_more (layout_of a) (layout_of b) one two chunks n (n + 1) index refl at i.asked c.in_ok-chunk_equal.ensures.asked_a c.in_ok-chunk_equal.ensures.asked_b) in
-    record { equal = equal; different = tt; content = compares true equal tt; asked = asked; counted = ?; refused = tt }
+    let many = length-positions range.start range.shape c.args.chunks.now.same_length in
+    let small = sym c.is_err.ensures.value ∙ c.if-is_err.false in
+    let counted : length chunks < 2 ^ 64 = elim c.num_elements.result as (λ r. c.num_elements.result ≡ r → length chunks < 2 ^ 64) [
+      | Ok n ↦ λ is. (let own = rw is at c.num_elements.type_inv in let count = rw is at c.num_elements.ensures.ok in omega (arith, own, count, many))
+      | Err e ↦ λ is. absurd (false≢true (sym (rw is at small)))
+    ] refl in
+    record { equal = equal; different = tt; content = compares true equal tt; asked = asked; counted = counted; refused = tt }
 
 pub loop-walk-smaller : goal.loop-walk-smaller
 loop-walk-smaller g c =
