@@ -301,7 +301,7 @@ module _ (layout : Layout) (lawful : IsLawful layout) (keep : Bool) (region : Bo
   fails_late (inr last) = inr (calls ∙ last)
 
   part_late : (r : Refusal) → RefusesPart layout keep region held index failed x r → RefusesPart layout keep region held index failed y r
-  part_late refusal.storage (inl (none, part, is)) = inl (none, part, (same part).refuses ∙ is)
+  part_late refusal.storage (inl (none, small, part, is)) = inl (none, small, part, (same part).refuses ∙ is)
   part_late refusal.storage (inr (small, such, fails)) = inr (small, refused_as None such, fails_late fails)
   part_late refusal.codec (none, small, inl (part, bad)) = (none, small, inl (part, broken layout lawful x y index (same part) bad))
   part_late refusal.codec (none, small, inr such) = (none, small, inr (refused_as (Some refusal.codec) such))
@@ -540,7 +540,7 @@ module _ (layout : Layout) (lawful : IsLawful layout) (keep : Bool) (wanted inde
   )
 
   kept_late : keeps_some layout.grid wanted index ≡ true → (r : Refusal) → RefusesKeptCut layout keep wanted index failed x r → RefusesKeptCut layout keep wanted index failed y r
-  kept_late kept refusal.storage (inl (none, is)) = inl (none, (same kept).refuses ∙ is)
+  kept_late kept refusal.storage (inl (none, small, is)) = inl (none, small, (same kept).refuses ∙ is)
   kept_late kept refusal.storage (inr (small, such, inl one)) = inr (small, cut_as kept None such, inl one)
   kept_late kept refusal.storage (inr (small, such, inr last)) = inr (small, cut_as kept None such, inr (calls ∙ last))
   kept_late kept refusal.codec (none, small, inl bad) = (none, small, inl (broken layout lawful x y index (same kept) bad))
