@@ -193,7 +193,7 @@ module _ {S G K C : Type 0} {g : GridMeaning G} {k : KeyMeaning K} {c : ChainMea
     pub refusing : is_whole_of (box_at (layout_of engine).grid index).shape part ≡ true
         → (store_of state engine).refuses ((layout_of engine).key index) ≡ true → IsErr result
 
-  -- it may be asked for, if there is such a chunk and the part lies in it
+  -- the store may be asked for a part of a chunk, if there is such a chunk and the part lies in it
   abbrev pub MayRetrievePart : (S → StoreState) → List ℕ → Box → Engine S G K C g k c → Type 0
   MayRetrievePart state index part engine =
       let layout = layout_of engine in
