@@ -15,7 +15,7 @@ has_kind letter (order ∷ kind ∷ size) = (order == 60 || order == 62 || order
 abbrev pub names_floats : List ℕ → Bool
 names_floats name = starts_with nat_eq name (codes "float") || starts_with nat_eq name (codes "bfloat") || has_kind 102 name
 
--- or complex numbers
+-- a data type of this name, of V3 or of V2, has complex numbers
 abbrev pub names_complex : List ℕ → Bool
 names_complex name = starts_with nat_eq name (codes "complex") || has_kind 99 name
 
@@ -35,6 +35,7 @@ compresses name =
 abbrev pub checks_bytes : List ℕ → Bool
 checks_bytes name = bytes_eq name (codes "adler32") || bytes_eq name (codes "crc32c") || bytes_eq name (codes "fletcher32")
 
+-- a codec of this name is known and not supported
 abbrev pub is_unsupported_codec : List ℕ → Bool
 is_unsupported_codec name = compresses name || checks_bytes name
 

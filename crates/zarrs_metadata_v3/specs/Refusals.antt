@@ -35,7 +35,7 @@ IsWrong name (unread.Missing missing) = ⊥
 IsWrong name (unread.Wrong wrong is) = wrong.now ≡ name
 IsWrong name unread.OutOfMemory = ⊥
 
--- the member of this name is missing if it is absent, and wrong if it is there; or out of memory
+-- the member of this name does not read: it is missing if it is absent, and wrong if it is there; or out of memory
 abbrev pub IsUnread : {A : Type 0} → List ℕ → Option A → Unread → Type 0
 IsUnread name member unread.OutOfMemory = Unit {0}
 IsUnread name None (unread.Missing missing) = missing.now ≡ name
@@ -43,7 +43,7 @@ IsUnread name None (unread.Wrong wrong is) = ⊥
 IsUnread name (Some value) (unread.Missing missing) = ⊥
 IsUnread name (Some value) (unread.Wrong wrong is) = wrong.now ≡ name
 
--- so it is, and this is what is wrong with one that is there
+-- the fault of the member of this name: it is missing, or it is there and this text says what is wrong with it
 abbrev pub IsFault : {A : Type 0} → List ℕ → List ℕ → Option A → Unread → Type 0
 IsFault name text None (unread.Missing missing) = missing.now ≡ name
 IsFault name text None (unread.Wrong wrong is) = ⊥
