@@ -28,7 +28,7 @@ use Rattle.zarrs_engine.proofs.PartStores.{accepted_part, data_refuses, part_chu
 use Rattle.zarrs_engine.proofs.PatchedRegions.{encode_early, encoded_left, encoded_part, encoded_whole, key_left, whole_left}
 use Rattle.zarrs_engine.proofs.Puts.{each_error}
 use Rattle.zarrs_engine.proofs.engine.Engine.partial_encode.Goals as goal
-use Rattle.zarrs_engine.proofs.engine.Engine.partial_encode.Goals.{then-whole, else-whole}
+use Rattle.zarrs_engine.proofs.engine.Engine.partial_encode.Goals.{then-whole+in_ok-stored_at+in-None-1, then-whole+in_ok-stored_at+in-Some+in-None-1, then-whole+in_ok-stored_at+in-Some+in-Some-branch-6, else-whole}
 
 pub returns-in_err-chunk : goal.returns-in_err-chunk
 returns-in_err-chunk g c =
@@ -73,7 +73,8 @@ returns-in_err-check_cells g c =
     let why = encode_early layout keep index part held r state
     (data_refuses layout lawful index part (box_of c.in_ok-chunk.chunk.region) (box_of c.in_ok-region.region) c.args.chunk_subset.now.same_length chunk_is region.answer chunk.accepted region.accepted held c.eq-whole.result c.eq-whole.ensures r
     (refuses_said _ r c.in_err-check_cells.ensures.refused)) in
-    search (rules, why)
+    let p = err_from_is_err_and c.from_residual-in_err-check_cells.result c.from_residual-in_err-check_cells.ensures.1 in
+    rw (p.1, p.2) (record { done = tt; refused = why; refusing = λ said. refl; layout_kept = refl })
 
 pub patch_chunk-requires-clause-part : goal.patch_chunk-requires-clause-part
 patch_chunk-requires-clause-part g c =
@@ -207,7 +208,9 @@ returns g c =
           (subst (λ (b : Box). LeavesPart layout keep b held index (refusal_of e) state new) at left))
           e.refused;
       refusing = λ said. elim c.if-whole.branch [
-        | then-whole w ↦ absurd (false≢true (w.in_ok-stored_at.ensures.refusing said))
+        | then-whole+in_ok-stored_at+in-None-1 w ↦ absurd (false≢true (w.in_ok-stored_at.ensures.refusing said))
+        | then-whole+in_ok-stored_at+in-Some+in-None-1 w ↦ absurd (false≢true (w.in_ok-stored_at.ensures.refusing said))
+        | then-whole+in_ok-stored_at+in-Some+in-Some-branch-6 w ↦ absurd (false≢true (w.in_ok-stored_at.ensures.refusing said))
         | else-whole w ↦
             (subst (λ (i : List ℕ). IsPart layout (box_of c.in_ok-region.region) i → state.refuses (layout.key i) ≡ true → IsErr c.store_whole.result) chunk.answer.indices c.store_whole.ensures.refusing)
             (is_part layout lawful index part (box_of c.in_ok-chunk.chunk.region) (box_of c.in_ok-region.region) c.args.chunk_subset.now.same_length chunk_is region.answer chunk.accepted region.accepted
