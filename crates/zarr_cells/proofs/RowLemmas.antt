@@ -1,10 +1,13 @@
 -- Regions that are cut along a dimension.
-use Rattle.std.proofs.Common.{◌≡◌, ℕ, zero, suc, ◌+◌, ◌-◌, ◌*◌, ◌<◌, ◌≤◌, List, [], ◌∷◌, ◌++◌, length, map, slice_index, slice_set, max, refl, sym, ap, ◌∙◌, inl, inr, append-nil, arith}
+use Rattle.std.proofs.Common.{◌≡◌, ℕ, zero, suc, ◌+◌, ◌-◌, ◌*◌, ◌<◌, ◌≤◌, List, [], ◌∷◌, ◌++◌, length, map, get_or, set, slice_index, slice_set, max, refl, sym, ap, ◌∙◌, inl, inr, append-nil, arith}
 use Rattle.std.specs.List.{flat_map, range_with_len}
 use Rattle.std.proofs.lemmas.Bool.{cases_eq}
 use Rattle.std.proofs.lemmas.List.{map-append, length-set, get_or-set_same, get_or-set_other}
 use Rattle.std.proofs.lemmas.List.Concat.{flat_map-append}
-use Rattle.zarrs_subset.specs.Boxes.{positions_from, position_count}
+use Rattle.zarrs_subset.specs.Boxes.{positions_from, position_count, EndsFit}
+use Rattle.zarrs_subset.specs.Refusals.{RefusesStartShape}
+use Rattle.zarrs_subset.specs.declared.error.ArraySubsetError.{ArraySubsetError}
+use Rattle.zarrs_subset.specs.declared.error.ArraySubsetError.TheVariants.{IncompatibleDimensionality, EndOverflow, EndBelowStart, StartBelowOffset, OutOfMemory}
 use Rattle.zarrs_subset.specs.Regions.{Box, positions}
 use Rattle.zarr_cells.specs.Rows.{AreOnes}
 

@@ -256,13 +256,13 @@ impl<'r, R: Files + AllocGlobal> WritableStorageTraits for DirectoryStore<'r, R>
     fn set_partial(
         &mut self,
         _alloc: Global,
-        key: &StoreKey,
-        offset: u64,
-        bytes: &[u8],
+        _key: &StoreKey,
+        _offset: u64,
+        _bytes: &[u8],
     ) -> Result<(), StorageError>
         ensures fails { IsErr result }
         ensures ok { OnOk result (AcceptsPartial (directory_state self.old) (directory_state self.new)
-            (with_part (directory_state self.old).values key.now offset bytes.now)) }
+            (with_part (directory_state self.old).values _key.now _offset _bytes.now)) }
         ensures refused { OnErr result
             (RefusesPartial (directory_state self.old) (directory_state self.new)) }
         ensures exhausted { (directory_state self.old).calls ≡ last_call
@@ -275,7 +275,6 @@ impl<'r, R: Files + AllocGlobal> WritableStorageTraits for DirectoryStore<'r, R>
         if self.counts.are_exhausted() {
             return Err(StorageError::Exhausted);
         }
-        let _ = (key, offset, bytes);
         self.counts.count_part(true);
         Err(StorageError::ReadOnly)
     }
