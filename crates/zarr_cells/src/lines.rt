@@ -182,6 +182,7 @@ fn no_cell(alloc: Global, token: &[u8]) -> CellsError {
 }
 
 /// Adds the cell in this column that the input begins with.
+#[tactic(auto, using(crate::proofs::LineLemmas::extends_by, crate::proofs::LineLemmas::extends_same))]
 fn read_cell<R: BufRead>(
     alloc: Global,
     input: &mut R,
@@ -209,6 +210,7 @@ fn read_cell<R: BufRead>(
 ///
 /// # Errors
 /// E5 for what is no cell; fewer cells; what the reader says; out of memory.
+#[tactic(auto, using(crate::proofs::LineLemmas::extends_more))]
 pub fn read_cells<R: BufRead>(
     alloc: Global,
     input: &mut R,

@@ -57,7 +57,8 @@ pub fn numbers(alloc: Global, word: &str) -> Result<Vec<u64>, CellsError>
         return Ok(Vec::new(alloc));
     }
     let parts = parts_of(alloc, word)?;
-    part_numbers(alloc, &parts)
+    let found = part_numbers(alloc, &parts)?;
+    Ok(found)
 }
 
 /// Returns the region of this start and this shape.
