@@ -1,8 +1,8 @@
 -- Lists that a loop makes, item by item.
-use Rattle.std.proofs.Common.{◌≡◌, ℕ, zero, suc, ◌+◌, ◌-◌, ◌%◌, ◌^◌, ◌<◌, Bool, true, List, [], ◌∷◌, ◌++◌, length, get_or, map, not, replicate, decimal, Option, Some, None, refl, sym, ap, ◌∙◌, subst, append_assoc, append-nil, length-append, arith}
+use Rattle.std.proofs.Common.{◌≡◌, ℕ, zero, suc, ◌+◌, ◌-◌, ◌%◌, ◌^◌, ◌<◌, Bool, true, false, List, [], ◌∷◌, ◌++◌, length, get_or, map, not, replicate, decimal, Option, Some, None, inl, inr, refl, sym, ap, ◌∙◌, subst, append_assoc, append-nil, length-append, arith}
 use Rattle.std.specs.List.{Any}
 use Rattle.std.proofs.lemmas.List.{get_or-map, length-map, length-replicate, replicate_more}
-use Rattle.std.specs.Prelude.{bytes_eq}
+use Rattle.std.specs.Prelude.{◌⊎◌, bytes_eq, codes, IfErr, Result, Ok, Err}
 use Rattle.std.specs.Borrow.{Bor}
 use Rattle.std.proofs.lemmas.Slice.Eq.{bytes_eq-Decides}
 use Rattle.std.specs.Char.{is_ascii_whitespace}
@@ -10,6 +10,9 @@ use Rattle.std.specs.Int.{w16, to_le_bytes}
 use Rattle.std.specs.Io.KnownBytes.{Consumes}
 use Rattle.std.proofs.lemmas.List.Elements.{filter-append}
 use Rattle.zarr_cells.specs.Numbers.{number_in}
+use Rattle.zarr_cells.specs.Words.{parts_between, SaysNoNumbers}
+use Rattle.zarr_cells.specs.declared.error.CellsError.{CellsError}
+use Rattle.zarr_cells.specs.declared.error.CellsError.TheVariants.{OutOfMemory}
 use Rattle.zarr_cells.specs.Npy.{blank_count, extents, header_bytes, magic, padded, without_blanks, IsHeader, ReadsHeader}
 
 -- ---- numbers
@@ -31,6 +34,14 @@ any_said parts words are some =
     ap (λ (l : List (List ℕ)). get_or l some.0 some.1.now) (sym are) ∙ get_or-map (λ (part : Bor (List ℕ)). part.now) parts some.0 some.1 some.1.now some.2
     ∙ ap (λ (part : Bor (List ℕ)). part.now) some.3 in
     (some.0, some.1.now, inside, at, some.4)
+
+-- no list of numbers, for one of its parts
+pub numbers_refused : {T : Type 0} (word : List ℕ) (parts : List (Bor (List ℕ))) (r : Result T CellsError) → bytes_eq word (codes "-") ≡ false
+    → map (λ (part : Bor (List ℕ)). part.now) parts ≡ parts_between word
+    → IfErr r (λ e. (e ≡ OutOfMemory) ⊎ Any (λ (part : Bor (List ℕ)). number_in part.now ≡ None) parts) → IfErr r (λ e. (e ≡ OutOfMemory) ⊎ SaysNoNumbers word)
+numbers_refused word parts (Ok numbers) other are refused = tt
+numbers_refused word parts (Err e) other are refused =
+    elim refused [ inl short ↦ inl short | inr some ↦ inr (other, any_said parts (parts_between word) are some) ]
 
 -- ---- extents
 
@@ -77,6 +88,9 @@ padded_size text =
     length-append magic (to_le_bytes w16 (length (padded text)) ++ padded text)
     ∙ ap (λ k. 8 + k) (length-append (to_le_bytes w16 (length (padded text))) (padded text)) ∙ omega (arith, size) in
     ap (λ k. k % 64) whole ∙ whole_size (length text)
+
+pub padded_bytes_size : (says bytes : List ℕ) → bytes ≡ header_bytes (padded says) → length bytes % 64 ≡ 0
+padded_bytes_size says bytes is = ap (λ (l : List ℕ). length l % 64) is ∙ padded_size says
 
 -- what is written is a header
 pub padded_header : (says bytes : List ℕ) → bytes ≡ header_bytes (padded says) → length (padded says) < 2 ^ 16 → IsHeader says bytes

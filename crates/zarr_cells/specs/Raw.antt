@@ -26,13 +26,13 @@ pub record HasRawSize (type : Kind) (shape : List ℕ) (bytes : ℕ) : Type 0 wh
   pub is_size : element_size type ≡ Some size
   pub bytes_are : bytes ≡ position_count shape * size
 
--- there are more of them than 64 bits count
+-- there are more cells than 64 bits count, or they have more bytes
 pub record HasLargeSize (type : Kind) (shape : List ℕ) (e : CellsError) : Type 0 where
   pub size : ℕ
   pub is_size : element_size type ≡ Some size
   pub is : e ≡ SizeOverflow
-  pub large : 2 ^ 64 ≤ position_count shape * size
+  pub large : (2 ^ 64 ≤ position_count shape) ⊎ (2 ^ 64 ≤ position_count shape * size)
 
--- the cells have no size of their own, or too many bytes
+-- the cells have no size of their own, or there are too many of them
 abbrev pub RefusesRawSize : Kind → List ℕ → CellsError → Type 0
 RefusesRawSize type shape e = (element_size type ≡ None) ⊎ HasLargeSize type shape e

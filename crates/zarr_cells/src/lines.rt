@@ -133,14 +133,7 @@ fn unopened(text: &[u8], is_first: bool) -> Option<&[u8]>
 }
 
 /// Returns the word of a cell, in what is read for it.
-#[tactic(
-    auto,
-    using(
-        crate::proofs::LineLemmas::word_unclosed,
-        crate::proofs::LineLemmas::word_unopened,
-        crate::proofs::LineLemmas::word_found
-    )
-)]
+#[tactic(auto, using(crate::proofs::LineLemmas::word_unclosed, crate::proofs::LineLemmas::word_unopened, crate::proofs::LineLemmas::word_found))]
 fn word_in(token: &[u8], is_first: bool, is_last: bool) -> Option<&[u8]>
     ensures { MatchOption result (word_in is_first is_last token.now ≡ None)
         (λ word. word_in is_first is_last token.now ≡ Some word.now) }

@@ -99,7 +99,7 @@ fn padded(text: Vec<u8>) -> Result<Vec<u8>, AllocError>
 ///
 /// # Errors
 /// Too many dimensions; out of memory.
-#[tactic(auto, using(crate::proofs::ListLemmas::padded_is_header, crate::proofs::ListLemmas::padded_size))]
+#[tactic(auto, using(crate::proofs::ListLemmas::padded_bytes_size, crate::proofs::ListLemmas::padded_header))]
 pub fn header(
     alloc: Global,
     form: Option<Form>,

@@ -57,8 +57,7 @@ pub fn numbers(alloc: Global, word: &str) -> Result<Vec<u64>, CellsError>
         return Ok(Vec::new(alloc));
     }
     let parts = parts_of(alloc, word)?;
-    let found = part_numbers(alloc, &parts)?;
-    Ok(found)
+    part_numbers(alloc, &parts)
 }
 
 /// Returns the region of this start and this shape.
