@@ -1,5 +1,5 @@
 -- Regions that are one chunk, and the cells of a region's data.
-use Rattle.std.proofs.Common.{◌≡◌, ◌↔◌, ◌==◌, ◌&&◌, ◌<◌, ◌*◌, not, ℕ, zero, suc, Bool, true, false, cond, List, [], ◌∷◌, length, map, slice_index}
+use Rattle.std.proofs.Common.{◌≡◌, ◌↔◌, ◌==◌, ◌&&◌, ◌<◌, ◌≤◌, ◌+◌, ◌-◌, ◌*◌, not, ℕ, zero, suc, Bool, true, false, cond, List, [], ◌∷◌, length, map, slice_index}
 use Rattle.std.proofs.Common.{IsTrue, replicate, refl, sym, ◌∙◌, ap, subst, inl, inr, arith}
 use Rattle.std.specs.List.{SomeIndex, flat_map, range_with_len}
 use Rattle.std.proofs.lemmas.List.{append-nil}
@@ -10,7 +10,9 @@ use Rattle.std.proofs.lemmas.List.Folds.{list_any_at}
 use Rattle.zarrs_subset.specs.Boxes.{position_count, positions_from}
 use Rattle.zarrs_subset.specs.Regions.{Box, Holds, IsLong, box_eq, box_from, empty_box, positions, LiesInBox}
 use Rattle.zarrs_subset.proofs.Bytes.{along_holds, holds_along}
-use Rattle.zarrs_chunk_grid.specs.Grids.{Grid, IsGrid, box_at, each_dimension, extent_along, first_met, amount_met, has_box, index_at, met}
+use Rattle.zarrs_chunk_grid.specs.Axes.{Covers}
+use Rattle.zarrs_chunk_grid.specs.Grids.{Grid, IsGrid, box_at, each_dimension, extent_along, start_along, first_met, amount_met, has_box, index_at, met}
+use Rattle.zarrs_chunk_grid.proofs.AxisLemmas.{covered_below, covers_once}
 use Rattle.zarrs_chunk_grid.proofs.Chunks.{box_is_there, box_long, box_dimensions, covered_holds}
 use Rattle.zarrs_chunk_grid.proofs.MetChunks.{MetAt, at_dimension, met_from_walk, walk_is_met}
 use Rattle.zarrs_chunk_grid.proofs.Walks.{PairsBelow}
@@ -21,7 +23,7 @@ use Rattle.zarrs_data_type_kinds.specs.declared.data_type.DataType.{DataType}
 use Rattle.zarrs_data_type_kinds.proofs.Sizes.{element_size-positive}
 use Rattle.zarrs_data_type_bytes.proofs.Cells.{HasCells-parts, count_of-fits}
 use Rattle.zarrs_engine_calls.specs.ChunkBoxes.{CoversBox, is_empty, is_one_chunk, last_of}
-use Rattle.zarrs_engine_calls.proofs.Contents.{only_member}
+use Rattle.zarrs_engine_calls.proofs.Contents.{member, only_member}
 use Rattle.zarrs_engine_calls.proofs.Covers.{last_at, last_held, some_extent}
 use Rattle.zarrs_engine_calls.specs.Layout.{Layout, IsLawful}
 use Rattle.zarrs_engine_layout.specs.Covers.{CoverRegion, IsInChunk}
@@ -154,6 +156,15 @@ module _ (grid : Grid) (lawful : IsGrid grid) (index : List ℕ) (has : has_box 
             omega arith;
       }
 
+-- where a chunk begins along a dimension, and its extent there
+box_start_along : (grid : Grid) (index : List ℕ) (k : ℕ) → k < grid.dimensions → slice_index (box_at grid index).start k ≡ start_along grid index k
+unfolding box_at
+box_start_along grid index k within = at_dimension grid.dimensions (start_along grid index) k within
+
+box_extent_along : (grid : Grid) (index : List ℕ) (k : ℕ) → k < grid.dimensions → slice_index (box_at grid index).shape k ≡ extent_along grid index k
+unfolding box_at
+box_extent_along grid index k within = at_dimension grid.dimensions (extent_along grid index) k within
+
 -- ---- ranges of one chunk
 
 product_one : (e m : ℕ) → e * m ≡ 1 → (e ≡ 1) × (m ≡ 1)
@@ -194,6 +205,45 @@ only_chunk_met layout lawful shape region long dimensions filled index n all wal
       met = ap positions (sym is) ∙ only;
       cover = subst (λ (l : List (List ℕ)). CoverRegion layout.grid region l) only (region_cover layout lawful shape region long box box_long dimensions is_met);
     }
+
+-- a region that lies in a chunk lies in it along each dimension
+module _ (layout : Layout) (lawful : IsLawful layout) (shape : List ℕ) (region : Box) (index : List ℕ) (lies : IsInChunk layout shape region index) (k : ℕ) (within : k < layout.grid.dimensions) where
+  pub extent_in_chunk : 0 < slice_index region.shape k
+  extent_in_chunk = some_extent region.shape k lies.some (omega (arith, lies.cover.long, lies.cover.dimensions))
+
+  interval_held : (Covers (layout.grid.axis k) (slice_index index k) (slice_index region.start k))
+      × (Covers (layout.grid.axis k) (slice_index index k) (slice_index region.start k + slice_index region.shape k - 1))
+  interval_held =
+      let grid = layout.grid in
+      let has = lies.cover.boxed index (member index) in
+      let numbered = (box_is_there grid index has).numbered k within in
+      let inside = region_lies grid lawful.grid index has region lies.cover lies.some in
+      let below : k < length (box_at grid index).start = omega (arith, box_long grid index, box_dimensions grid index) in
+      let from = inside.starts k below in
+      let upto = inside.ends k below in
+      let start = box_start_along grid index k within in
+      let extent = box_extent_along grid index k within in
+      let rises = (lawful.grid k within).ascends (slice_index index k) numbered in
+      let some = extent_in_chunk in (
+        record { numbered = numbered; from = omega arith; below = omega arith },
+        record { numbered = numbered; from = omega arith; below = omega arith },
+      )
+
+  -- so it meets one chunk there
+  pub one_met_along : (first amount : ℕ) → MetAt layout.grid region k first amount → amount ≡ 1
+  one_met_along first amount met =
+      let axis = layout.grid.axis k in
+      let held = interval_held in
+      let first_is = covers_once axis (lawful.grid k within) first (slice_index index k) (slice_index region.start k) met.from held.0 in
+      let last_is = covers_once axis (lawful.grid k within) (first + amount - 1) (slice_index index k) (slice_index region.start k + slice_index region.shape k - 1) met.upto held.1 in
+      let some = met.some in
+      omega arith
+
+  -- and no coordinate of it passes the last edge
+  pub no_end_in_chunk : (layout.grid.axis k).edge (layout.grid.axis k).count ≤ slice_index region.start k + slice_index region.shape k - 1 → ⊥
+  no_end_in_chunk past =
+      let before = covered_below (layout.grid.axis k) (lawful.grid k within) (slice_index index k) (slice_index region.start k + slice_index region.shape k - 1) interval_held.1 in
+      omega arith
 
 -- ---- the cells of data
 

@@ -30,3 +30,7 @@ pub record IsInChunk (layout : Layout) (shape : List ℕ) (region : Box) (index 
   pub accepted : region_refusal layout shape region ≡ None
   pub met : chunks_met layout.grid region ≡ index ∷ []
   pub cover : CoverRegion layout.grid region (index ∷ [])
+
+-- the region is empty, or lies in no single chunk
+abbrev pub IsInNoChunk : Layout → List ℕ → Box → Type 0
+IsInNoChunk layout shape region = (index : List ℕ) → IsInChunk layout shape region index → ⊥

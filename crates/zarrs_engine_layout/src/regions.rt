@@ -11,7 +11,7 @@ use zarrs_keys::ChunkKeyEncodingTraits;
 use zarrs_subset::{ArraySubset, ArraySubsetTraits};
 
 impl<G: ChunkGridTraits, K: ChunkKeyEncodingTraits, C: ChainTraits> ArrayLayout<G, K, C> {
-    ghost use Rattle.std.specs.Prelude.{◌≡◌, ◌↔◌, ◌*◌, ◌<◌, ◌^◌, Some, None, IfOk, IfErr, IfSome, IsTrue, OnOk};
+    ghost use Rattle.std.specs.Prelude.{◌≡◌, ◌↔◌, ◌*◌, ◌<◌, ◌^◌, Some, None, IfOk, IfErr, IfSome, IfNone, IsTrue, OnOk};
     ghost use Rattle.zarrs_subset.specs.Boxes.{position_count};
     ghost use Rattle.zarrs_subset.specs.Regions.{box_of, positions};
     ghost use Rattle.zarrs_chunk_grid.specs.Grids.{met};
@@ -24,7 +24,7 @@ impl<G: ChunkGridTraits, K: ChunkKeyEncodingTraits, C: ChainTraits> ArrayLayout<
     ghost use Rattle.zarrs_engine_calls.specs.Refusals.{RefusesBy, array_subset, refusal_of};
     ghost use Rattle.zarrs_engine_layout.specs.Layouts.{layout_meaning};
     ghost use Rattle.zarrs_engine_layout.specs.Answers.{Answers};
-    ghost use Rattle.zarrs_engine_layout.specs.Covers.{AreMetBy, CoverRegion, IsInChunk};
+    ghost use Rattle.zarrs_engine_layout.specs.Covers.{AreMetBy, CoverRegion, IsInChunk, IsInNoChunk};
     ghost use Rattle.zarrs_engine_layout.specs.Steps.{IsFill, filled_refusal, fills_refusal};
 
     /// Returns the refusal of this region: E1, or out of memory.
@@ -71,8 +71,10 @@ impl<G: ChunkGridTraits, K: ChunkKeyEncodingTraits, C: ChainTraits> ArrayLayout<
         alloc: Global,
         region: &ArraySubset,
     ) -> Result<Option<SmallVec<u64, 4>>, AllocError>
-        ensures { IfOk result (λ found. IfSome found (λ index. IsInChunk (layout_meaning self.now)
+        ensures some { IfOk result (λ found. IfSome found (λ index. IsInChunk (layout_meaning self.now)
             (G.array_extents self.now.grid) (box_of region.now) index.items)) }
+        ensures none { IfOk result (λ found. IfNone found (IsInNoChunk (layout_meaning self.now)
+            (G.array_extents self.now.grid) (box_of region.now))) }
     {
         let dimensions = self.grid.dimensionality();
         if region.dimensionality() != dimensions {
