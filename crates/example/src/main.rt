@@ -1,5 +1,4 @@
-//! README's whole program: an array is built, written, opened again and printed. The callers of `docs/CALLING.md` that
-//! stand in no other crate are the other modules, and tests run them.
+//! README's whole program: an array is built, written, opened again and printed.
 #![tactic(auto)]
 
 use anyhow::Result;
@@ -24,12 +23,3 @@ fn main(rt: HostRuntime) -> Result<()> {
     }
     Ok(())
 }
-
-#[cfg(test)]
-mod changes;
-#[cfg(test)]
-mod shards;
-#[cfg(test)]
-mod tests;
-#[cfg(test)]
-mod texts;

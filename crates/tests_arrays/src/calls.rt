@@ -2,9 +2,9 @@
 //! value 7.
 use crate::arrays::{MemoryArray, array};
 use crate::checks::{must, must_be_bytes, must_be_done, must_eq};
+use crate::made::list_of;
 use std::alloc::Global;
 use std::process::Abort;
-use zarrs::CodecOptions;
 
 /// A chunk, a part of another one, a range of two, and a region.
 fn store_elements(rt: &impl Abort, alloc: Global, array: &mut MemoryArray) {
@@ -68,43 +68,19 @@ fn elements_are_stored_and_read(rt: HostRuntime) {
     drop(array);
 }
 
-fn must_be_compact(rt: &impl Abort, alloc: Global, array: &mut MemoryArray) {
-    if array.dimensionality() != 2 {
-        return rt.panic("another number of dimensions");
-    }
-    let wrote = array.compact_chunk(alloc, &[0, 0], &CodecOptions::default());
-    must(rt, !wrote.expect(rt, "no refusal"));
-}
-
-/// A chunk without subchunks is compact, whether it is present or not.
-#[test]
-fn chunks_without_subchunks_are_compact(rt: HostRuntime) {
-    let alloc = rt.alloc();
-    let mut array = array(&rt, alloc);
-    must_be_compact(&rt, alloc, &mut array);
-    must_be_done(&rt, array.store_chunk(alloc, &[0, 0], [1u8, 2, 3, 4]));
-    must_be_compact(&rt, alloc, &mut array);
-    must_eq(&rt, array.storage().calls(), 1);
-    drop(array);
-}
-
 fn must_have_extents(rt: &impl Abort, alloc: Global, array: &MemoryArray) {
     let extents = array.chunk_shape_usize(alloc, &[0, 0]);
     let extents = extents.expect(rt, "no refusal");
     must_eq(rt, extents.as_slice(), [2, 2].as_slice());
 }
 
-fn list(rt: &impl Abort, alloc: Global, numbers: &[u64]) -> Vec<u64> {
-    numbers.to_vec(alloc).expect(rt, "no refusal")
-}
-
 fn set_shape(rt: &impl Abort, alloc: Global, array: &mut MemoryArray) {
-    let set = array.set_shape(alloc, list(rt, alloc, &[9, 3]));
+    let set = array.set_shape(alloc, list_of(rt, alloc, &[9, 3]));
     must_eq(rt, set.expect(rt, "no refusal").shape(), [9, 3].as_slice());
 }
 
 fn set_grid(rt: &impl Abort, alloc: Global, array: &mut MemoryArray) {
-    let set = array.set_shape_and_chunk_grid(alloc, list(rt, alloc, &[9, 9]), [3u64, 2]);
+    let set = array.set_shape_and_chunk_grid(alloc, list_of(rt, alloc, &[9, 9]), [3u64, 2]);
     let counts = set.expect(rt, "no refusal").chunk_grid_shape();
     must_eq(rt, counts, [3, 5].as_slice());
 }

@@ -2,7 +2,7 @@
 //! that the test owns. A call of these takes one.
 use std::fmt::Debug;
 use std::process::Abort;
-use zarrs::{ArrayCreateError, ArrayError};
+use zarrs::{ArrayCreateError, ArrayError, DimensionName};
 
 /// Ends the test, except if this holds.
 pub(crate) fn must(rt: &impl Abort, holds: bool) {
@@ -34,4 +34,12 @@ pub(crate) fn must_be_bytes(rt: &impl Abort, read: Result<Vec<u8>, ArrayError>, 
 pub(crate) fn must_want_memory(rt: &impl Abort, error: ArrayCreateError) {
     must(rt, matches!(error, ArrayCreateError::OutOfMemory));
     drop(error);
+}
+
+/// Whether the dimensions have the names `y` and `x`.
+pub(crate) fn are_y_and_x(names: Option<&[DimensionName]>) -> bool {
+    match names {
+        Some([Some(first), Some(second)]) => first.as_str() == "y" && second.as_str() == "x",
+        _ => false,
+    }
 }

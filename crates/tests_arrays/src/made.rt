@@ -6,7 +6,7 @@ use crate::checks::must_eq;
 use serde_json::Value;
 use std::alloc::Global;
 use std::process::Abort;
-use zarrs::{ArrayMetadataV3, DataType};
+use zarrs::{ArrayMetadataV3, Bytes, DataType, MemoryStore, StoreKey, WritableStorageTraits};
 use zarrs_builder::ArrayBuilder;
 
 pub(crate) fn text_of(rt: &impl Abort, alloc: Global, text: &str) -> String {
@@ -19,6 +19,20 @@ pub(crate) fn list_of<T: Copy>(rt: &impl Abort, alloc: Global, items: &[T]) -> V
 
 pub(crate) fn json_of(rt: &impl Abort, alloc: Global, text: &str) -> Value {
     Value::from_str(alloc, text).expect(rt, "no refusal")
+}
+
+/// A store that holds this value alone.
+pub(crate) fn holding(
+    rt: &impl Abort,
+    alloc: Global,
+    key: &str,
+    value: &'static [u8],
+) -> MemoryStore {
+    let mut storage = MemoryStore::new(alloc);
+    let key = StoreKey::new(alloc, key).expect(rt, "no refusal");
+    let set = storage.set(alloc, &key, Bytes::from_static(value));
+    set.expect(rt, "no refusal");
+    storage
 }
 
 /// A builder of an array of 8 by 8 bytes in chunks of 4 by 4.

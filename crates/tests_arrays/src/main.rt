@@ -1,5 +1,6 @@
-//! Short uses of arrays, by a builder and by their metadata, as a caller writes them. `README.md` and `docs/CALLING.md`
-//! quote them. Tests of arrays, of builders and of scripts: what no line of a case file and no file of `data/` can show.
+//! Short uses of arrays, by a builder and by their metadata, as a caller writes them: `README.md` and `docs/CALLING.md`
+//! quote them, and tests run them. Tests of arrays, of builders and of scripts: what no line of a case file and no file of
+//! `data/` can show.
 //!
 //! The program runs each script of `data/`, and compares its output with the file beside it.
 #![tactic(auto)]
@@ -8,17 +9,26 @@
 mod arrays;
 #[cfg(test)]
 mod builders;
-pub mod built;
+#[cfg(test)]
+mod built;
+#[cfg(test)]
+mod callers;
 #[cfg(test)]
 mod calls;
 #[cfg(test)]
+mod changes;
+#[cfg(test)]
 mod checks;
-pub mod courses;
-pub mod documents;
-pub mod encoded;
+#[cfg(test)]
+mod courses;
+#[cfg(test)]
+mod documents;
+#[cfg(test)]
+mod encoded;
 #[cfg(test)]
 mod errors;
-pub mod histories;
+#[cfg(test)]
+mod histories;
 #[cfg(test)]
 mod made;
 #[cfg(test)]
@@ -29,7 +39,12 @@ mod scripts;
 mod setters;
 #[cfg(test)]
 mod shards;
-pub mod upgraded;
+#[cfg(test)]
+mod texts;
+#[cfg(test)]
+mod tiles;
+#[cfg(test)]
+mod upgraded;
 #[cfg(test)]
 mod uses;
 

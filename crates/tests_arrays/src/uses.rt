@@ -1,15 +1,14 @@
 //! The uses of arrays, run.
 use crate::built::{measure, rainfall, rainfall_in_a_shard, unit_of};
-use crate::checks::{must, must_eq};
+use crate::checks::{are_y_and_x, must, must_eq};
 use crate::courses::stored_and_read_twice;
 use crate::documents::{create_array, read_region_at, v3_text};
 use crate::encoded::read_while;
+use crate::made::holding;
 use std::alloc::Global;
 use std::ops::Range;
 use std::process::Abort;
-use zarrs::{
-    Array, ArraySubset, Bytes, DimensionName, MemoryStore, StoreKey, WritableStorageTraits,
-};
+use zarrs::{Array, ArraySubset, MemoryStore};
 
 const PATH: &str = "/climate/rain";
 
@@ -87,19 +86,11 @@ const CONVERTED: &str = concat!(
     "\"node_type\":\"array\",\"shape\":[6],\"zarr_format\":3}"
 );
 
-/// The store that holds the V2 document.
-fn holding(rt: &impl Abort, alloc: Global) -> MemoryStore {
-    let mut storage = MemoryStore::new(alloc);
-    let key = StoreKey::new(alloc, "names/.zarray").expect(rt, "no refusal");
-    let set = storage.set(alloc, &key, Bytes::from_static(V2_DOCUMENT));
-    set.expect(rt, "no refusal");
-    storage
-}
-
 #[test]
 fn a_v2_array_is_shown_in_v3(rt: HostRuntime) {
     let alloc = rt.alloc();
-    let text = v3_text(alloc, holding(&rt, alloc), "/names").expect(&rt, "no refusal");
+    let storage = holding(&rt, alloc, "names/.zarray", V2_DOCUMENT);
+    let text = v3_text(alloc, storage, "/names").expect(&rt, "no refusal");
     must_eq(&rt, text.as_str(), CONVERTED);
 }
 
@@ -145,14 +136,6 @@ fn a_chunk_is_left_as_it_was(rt: HostRuntime) {
     let mut array = created(&rt, alloc);
     must_be_put_back(&rt, alloc, &mut array, &region(&rt, alloc, &[0..1, 0..4]));
     drop(array);
-}
-
-/// The dimensions have the names `y` and `x`.
-fn are_y_and_x(names: Option<&[DimensionName]>) -> bool {
-    match names {
-        Some([Some(first), Some(second)]) => first.as_str() == "y" && second.as_str() == "x",
-        _ => false,
-    }
 }
 
 /// What is known of the first two rows of places after four of them were measured.

@@ -1,13 +1,11 @@
-//! The calls of an engine whose grid is of a type that no array has, in a list and by themselves; and the parts that it
-//! lends.
+//! The calls of an engine whose grid is of a type that no array has, in a list; and the parts that it lends.
 use crate::checks::{must, must_eq, must_print};
 use crate::histories::replayed;
 use crate::make::MemoryEngine;
 use crate::steps::{Step, calls, region, small_array};
 use std::alloc::Global;
 use std::process::Abort;
-use zarrs_codec::CodecOptions;
-use zarrs_data_type::{ArrayBytesDecodeIntoTarget, DataType};
+use zarrs_data_type::DataType;
 use zarrs_engine::{chunks_equal, layouts_are_lawful};
 use zarrs_keys::{ChunkKeyEncoding, ChunkKeySeparator};
 use zarrs_storage::{Bytes, MemoryStore, StoreKey, WritableStorageTraits};
@@ -66,85 +64,6 @@ fn a_list_of_calls_goes_on_after_refusals(rt: HostRuntime) {
     drop(engine);
 }
 
-/// Sets a value in the store that the engine lends.
-fn set_in_store(rt: &impl Abort, alloc: Global, engine: &mut MemoryEngine) {
-    let key = StoreKey::new(alloc, "climate/rain/c/1/1").expect(rt, "no refusal");
-    engine
-        .storage_mut()
-        .set(alloc, &key, Bytes::from_static(&[4, 0, 0, 9]))
-        .expect(rt, "no refusal");
-}
-
-fn must_read_encoded(rt: &impl Abort, alloc: Global, engine: &MemoryEngine) {
-    if engine.dimensionality() != 2 {
-        return rt.panic("another number of dimensions");
-    }
-    let chunk = engine
-        .retrieve_encoded_chunk(alloc, &[1, 1])
-        .expect(rt, "no refusal");
-    must_print(rt, alloc, &chunk, "Some([4, 0, 0, 9])");
-    drop(chunk);
-}
-
-fn must_read_encoded_range(rt: &impl Abort, alloc: Global, engine: &MemoryEngine) {
-    let range = region(rt, alloc, &[0, 1], &[2, 1]);
-    if range.dimensionality() != engine.dimensionality() {
-        return rt.panic("another number of dimensions");
-    }
-    let chunks = engine
-        .retrieve_encoded_chunks(alloc, &range)
-        .expect(rt, "no refusal");
-    must_print(rt, alloc, &chunks, "[None, Some([4, 0, 0, 9])]");
-    drop(chunks);
-}
-
-/// Reads the last column of a chunk, by its decoder.
-fn must_decode(rt: &impl Abort, alloc: Global, engine: &MemoryEngine) {
-    let column = region(rt, alloc, &[0, 1], &[2, 1]);
-    let decoder = engine
-        .partial_decoder(alloc, &[1, 1])
-        .expect(rt, "no refusal");
-    let cells = decoder
-        .partial_decode(alloc, &column, &CodecOptions::default())
-        .expect(rt, "no refusal");
-    must_print(rt, alloc, &cells, "Fixed([0, 9])");
-    must(rt, decoder.exists(alloc).expect(rt, "no refusal"));
-}
-
-/// Reads the last column of a chunk into that of a target of four bytes 8, by its decoder.
-fn must_decode_into(rt: &impl Abort, alloc: Global, engine: &MemoryEngine) {
-    let mut bytes = [8u8; 4];
-    let column = region(rt, alloc, &[0, 1], &[2, 1]);
-    let Ok(mut target) = ArrayBytesDecodeIntoTarget::new_fixed(&mut bytes, 1, &[2, 2], &column)
-    else {
-        rt.panic("no refusal")
-    };
-    let decoder = engine
-        .partial_decoder(alloc, &[1, 1])
-        .expect(rt, "no refusal");
-    decoder
-        .partial_decode_into(alloc, &column, &mut target, &CodecOptions::default())
-        .expect(rt, "no refusal");
-    drop(target);
-    must_eq(rt, bytes.as_slice(), [8, 0, 8, 9].as_slice());
-}
-
-/// Reads the last two rows of the array into a target of eight bytes 8.
-fn must_read_into(rt: &impl Abort, alloc: Global, engine: &MemoryEngine) {
-    let mut bytes = [8u8; 8];
-    let whole = region(rt, alloc, &[0, 0], &[2, 4]);
-    let rows = region(rt, alloc, &[2, 0], &[2, 4]);
-    let Ok(mut target) = ArrayBytesDecodeIntoTarget::new_fixed(&mut bytes, 1, &[2, 4], &whole)
-    else {
-        rt.panic("no refusal")
-    };
-    engine
-        .retrieve_array_subset_into(alloc, &rows, &mut target)
-        .expect(rt, "no refusal");
-    drop(target);
-    must_eq(rt, bytes.as_slice(), [0, 0, 4, 0, 0, 0, 0, 9].as_slice());
-}
-
 /// The chunks of the range are equal, or they are not.
 fn must_compare(rt: &impl Abort, alloc: Global, a: &MemoryEngine, b: &MemoryEngine, equal: bool) {
     let range = region(rt, alloc, &[1, 0], &[1, 2]);
@@ -158,22 +77,6 @@ fn must_compare(rt: &impl Abort, alloc: Global, a: &MemoryEngine, b: &MemoryEngi
         chunks_equal(alloc, a, b, &range).expect(rt, "no refusal"),
         equal,
     );
-}
-
-#[test]
-fn the_store_that_is_lent_has_the_chunks(rt: HostRuntime) {
-    let mut engine = small_array(&rt, rt.alloc());
-    let new = small_array(&rt, rt.alloc());
-    must_compare(&rt, rt.alloc(), &engine, &new, true);
-    set_in_store(&rt, rt.alloc(), &mut engine);
-    must_compare(&rt, rt.alloc(), &engine, &new, false);
-    must_read_encoded(&rt, rt.alloc(), &engine);
-    must_read_encoded_range(&rt, rt.alloc(), &engine);
-    must_decode(&rt, rt.alloc(), &engine);
-    must_decode_into(&rt, rt.alloc(), &engine);
-    must_read_into(&rt, rt.alloc(), &engine);
-    drop(engine);
-    drop(new);
 }
 
 /// The parts are lent as they were given.
@@ -193,18 +96,20 @@ fn must_lend(rt: &impl Abort, engine: &MemoryEngine) {
     let _chain = engine.chain();
 }
 
-/// Sets these bytes at the key of the first chunk, in the store that the engine lends.
-fn set_first(rt: &impl Abort, alloc: Global, engine: &mut MemoryEngine, bytes: &'static [u8]) {
-    let key = StoreKey::new(alloc, "climate/rain/c/0/0").expect(rt, "no refusal");
+const LAST: &str = "climate/rain/c/1/1";
+
+/// Sets the bytes of the last chunk, in the store that the engine lends.
+fn set_last(rt: &impl Abort, alloc: Global, engine: &mut MemoryEngine) {
+    let key = StoreKey::new(alloc, LAST).expect(rt, "no refusal");
     engine
         .storage_mut()
-        .set(alloc, &key, Bytes::from_static(bytes))
+        .set(alloc, &key, Bytes::from_static(&[4, 0, 0, 9]))
         .expect(rt, "no refusal");
 }
 
-/// Erases the key of the first chunk there.
-fn erase_first(rt: &impl Abort, alloc: Global, engine: &mut MemoryEngine) {
-    let key = StoreKey::new(alloc, "climate/rain/c/0/0").expect(rt, "no refusal");
+/// Erases the key of the last chunk there.
+fn erase_last(rt: &impl Abort, alloc: Global, engine: &mut MemoryEngine) {
+    let key = StoreKey::new(alloc, LAST).expect(rt, "no refusal");
     engine
         .storage_mut()
         .erase(alloc, &key)
@@ -220,19 +125,18 @@ fn must_be_left(rt: &impl Abort, alloc: Global, store: &MemoryStore) {
 
 #[test]
 fn parts_are_lent_and_the_store_is_given_back(rt: HostRuntime) {
+    const READ: &[Step] = &[Step::Read(&[1, 1])];
+    const CELLS: &str = "[Cells(Fixed([4, 0, 0, 9]))]";
     let mut engine = small_array(&rt, rt.alloc());
+    let new = small_array(&rt, rt.alloc());
     must_lend(&rt, &engine);
-    const FIRST: &[Step] = &[Step::Read(&[0, 0])];
-    set_first(&rt, rt.alloc(), &mut engine, &[1, 2, 3, 4]);
-    must_reply(
-        &rt,
-        rt.alloc(),
-        &mut engine,
-        FIRST,
-        "[Cells(Fixed([1, 2, 3, 4]))]",
-    );
-    erase_first(&rt, rt.alloc(), &mut engine);
+    must_compare(&rt, rt.alloc(), &engine, &new, true);
+    set_last(&rt, rt.alloc(), &mut engine);
+    must_compare(&rt, rt.alloc(), &engine, &new, false);
+    must_reply(&rt, rt.alloc(), &mut engine, READ, CELLS);
+    erase_last(&rt, rt.alloc(), &mut engine);
     must_be_left(&rt, rt.alloc(), &engine.into_storage());
+    drop(new);
 }
 
 #[test]

@@ -9,17 +9,23 @@
 mod calls;
 #[cfg(test)]
 mod checks;
-pub mod chunks;
+#[cfg(test)]
+mod chunks;
 #[cfg(test)]
 mod errors;
-pub mod histories;
+#[cfg(test)]
+mod histories;
 #[cfg(test)]
 mod lean;
-pub mod make;
-pub mod refusals;
-pub mod regions;
+#[cfg(test)]
+mod make;
+#[cfg(test)]
+mod refusals;
+#[cfg(test)]
+mod regions;
 #[cfg(test)]
 mod steps;
 #[cfg(test)]
 mod uses;
-pub mod walk;
+#[cfg(test)]
+mod walk;

@@ -1,8 +1,6 @@
 //! Boxes: how they are made and what they say, in tables; cells that are copied between them.
-ghost use Rattle.std.specs.Prelude.{◌≡◌};
-ghost use Rattle.zarrs_subset.specs.Regions.{box_from, box_of};
-
 use crate::checks::{must, must_eq};
+use crate::data::box_at;
 use std::alloc::Global;
 use std::ops::Range;
 use std::process::Abort;
@@ -33,14 +31,6 @@ fn numbers(rt: &impl Abort, alloc: Global, numbers: &[u64]) -> Vec<u64> {
     Vec::from_slice(alloc, numbers).expect(rt, "no refusal")
 }
 
-fn subset(rt: &impl Abort, alloc: Global, start: &[u64], shape: &[u64]) -> ArraySubset
-    ensures { box_of result ≡ box_from start.now shape.now }
-{
-    let start = Vec::from_slice(alloc, start).expect(rt, "no refusal");
-    let shape = Vec::from_slice(alloc, shape).expect(rt, "no refusal");
-    ArraySubset::new_with_start_shape(start, shape).expect(rt, "no refusal")
-}
-
 fn changed(
     rt: &impl Abort,
     alloc: Global,
@@ -48,7 +38,7 @@ fn changed(
     change: &Change,
 ) -> Result<ArraySubset, ArraySubsetError> {
     match change {
-        Change::Overlap(start, shape) => own.overlap(alloc, &subset(rt, alloc, start, shape)),
+        Change::Overlap(start, shape) => own.overlap(alloc, &box_at(rt, alloc, start, shape)),
         Change::Bound(end) => own.bound(alloc, end),
         Change::RelativeTo(offset) => own.relative_to(alloc, offset),
         Change::ShiftedBy(offset) => own.shifted_by(alloc, offset),
@@ -68,7 +58,7 @@ fn make(rt: &impl Abort, alloc: Global, made: &Made) -> Result<ArraySubset, Arra
         Made::Shape(shape) => Ok(ArraySubset::new_with_shape(alloc, numbers(rt, alloc, shape))?),
         Made::Empty(dimensionality) => Ok(ArraySubset::new_empty(alloc, *dimensionality)?),
         Made::Of(start, shape, change) => {
-            changed(rt, alloc, &subset(rt, alloc, start, shape), change)
+            changed(rt, alloc, &box_at(rt, alloc, start, shape), change)
         }
     }
 }
@@ -236,14 +226,14 @@ fn positions_come_in_row_major_order(rt: HostRuntime) {
         ),
     ];
     for (start, shape, positions) in ROWS {
-        let region = subset(&rt, rt.alloc(), start, shape);
+        let region = box_at(&rt, rt.alloc(), start, shape);
         must_walk(&rt, rt.alloc(), &region, positions);
         must_lend(&rt, rt.alloc(), &region, positions);
     }
     must_begin(
         &rt,
         rt.alloc(),
-        &subset(&rt, rt.alloc(), &[0, 7], &[4294967296, 4294967297]),
+        &box_at(&rt, rt.alloc(), &[0, 7], &[4294967296, 4294967297]),
     );
 }
 
@@ -297,7 +287,7 @@ fn must_be_described<B: ArraySubsetTraits>(rt: &impl Abort, alloc: Global, regio
 #[test]
 fn subsets_and_ranges_stand_for_boxes(rt: HostRuntime) {
     let alloc = rt.alloc();
-    let region = subset(&rt, alloc, &[1, 7], &[3, 0]);
+    let region = box_at(&rt, alloc, &[1, 7], &[3, 0]);
     must_be_described(&rt, alloc, &region);
     let array: [Range<u64>; 2] = [1..4, 7..2];
     must_be_described(&rt, alloc, &array);
@@ -321,7 +311,7 @@ fn must_meet_ranges(rt: &impl Abort, alloc: Global, region: &ArraySubset) {
 }
 
 fn must_come_apart(rt: &impl Abort, alloc: Global, region: ArraySubset) {
-    let other = subset(rt, alloc, &[1, 7], &[3, 1]);
+    let other = box_at(rt, alloc, &[1, 7], &[3, 1]);
     must(
         rt,
         region != other && region.clone().expect(rt, "no refusal") == region,
@@ -349,7 +339,7 @@ fn boxes_of_lists_that_are_known_to_fit(rt: HostRuntime) {
     let start = vec![in rt.alloc(); 0u64; 2].expect(&rt, "no refusal");
     let shape = vec![in rt.alloc(); 3u64; 2].expect(&rt, "no refusal");
     must_eq(&rt, ArraySubset::new(start, shape).num_elements(), Ok(9));
-    let plane = subset(&rt, rt.alloc(), &[3, 5], &[2, 2]);
+    let plane = box_at(&rt, rt.alloc(), &[3, 5], &[2, 2]);
     let second = plane.nth_position(rt.alloc(), 1).expect(&rt, "no refusal");
     must_eq(&rt, second.as_slice(), [3, 6].as_slice());
 }
@@ -409,8 +399,8 @@ fn boxes_of_cells_are_copied(rt: HostRuntime) {
 
 #[test]
 fn parts_go_to_their_places(rt: HostRuntime) {
-    let whole = subset(&rt, rt.alloc(), &[1, 1], &[3, 3]);
-    let part = subset(&rt, rt.alloc(), &[0, 2], &[3, 3]);
+    let whole = box_at(&rt, rt.alloc(), &[1, 1], &[3, 3]);
+    let part = box_at(&rt, rt.alloc(), &[0, 2], &[3, 3]);
     let mut target = [9u8; 9];
     place_part(&whole, &mut target, &part, &[1, 2, 3, 4, 5, 6, 7, 8, 10], 1);
     must_eq(&rt, target, [9, 4, 5, 9, 7, 8, 9, 9, 9]);
@@ -429,9 +419,9 @@ fn parts_go_to_their_places(rt: HostRuntime) {
         start: &[0, 0],
     };
     copy_box(&[], corner, &mut none, corner, &full, 0);
-    let empty_box = subset(&rt, rt.alloc(), &[0, 0], &empty);
+    let empty_box = box_at(&rt, rt.alloc(), &[0, 0], &empty);
     place_part(&empty_box, &mut none, &empty_box, &[], 1);
-    let full_box = subset(&rt, rt.alloc(), &[0, 0], &full);
+    let full_box = box_at(&rt, rt.alloc(), &[0, 0], &full);
     place_part(&full_box, &mut none, &full_box, &[], 0);
 }
 

@@ -1,5 +1,6 @@
 //! Cells in memory: what makes them, and what they are made of.
 use crate::checks::{must, must_eq, must_for};
+use crate::data::{Cells, box_at, data_of};
 use std::alloc::Global;
 use std::borrow::CowSlice;
 use std::process::Abort;
@@ -7,7 +8,7 @@ use zarrs_data_type::{
     ArrayBytes, ArrayBytesOffsets, ArrayBytesOptional, ArrayBytesVariableLength, DataType,
     ExpectedOptionalBytesError, ExpectedVariableLengthBytesError, VariableLengthBuilder,
 };
-use zarrs_subset::{ArraySubset, lies_in_box};
+use zarrs_subset::lies_in_box;
 
 fn must_be_offsets(rt: &impl Abort, offsets: &'static [usize], are: bool) {
     let made = ArrayBytesOffsets::new(CowSlice::Borrowed(offsets));
@@ -62,18 +63,11 @@ fn must_join(rt: &impl Abort, alloc: Global, expected: &[&[u8]]) {
     must_hold(rt, &builder.finish(), expected);
 }
 
-/// Byte strings that are lent and cut at these offsets.
-pub(crate) fn strings(
-    rt: &impl Abort,
-    bytes: &'static [u8],
-    offsets: &'static [usize],
-) -> ArrayBytes<'static> {
-    let offsets = ArrayBytesOffsets::new(CowSlice::Borrowed(offsets)).expect(rt, "offsets");
-    ArrayBytes::new_vlen(CowSlice::Borrowed(bytes), offsets).expect(rt, "byte strings")
-}
-
-fn must_cut(rt: &impl Abort, alloc: Global, data: ArrayBytes<'static>, expected: &[&[u8]]) {
-    let held = data.into_variable().expect(rt, "byte strings");
+/// These are the byte strings that the cells are cut into.
+fn must_cut(rt: &impl Abort, alloc: Global, cells: &Cells, expected: &[&[u8]]) {
+    let held = data_of(rt, alloc, cells)
+        .into_variable()
+        .expect(rt, "byte strings");
     must_hold(
         rt,
         &held.into_owned(alloc).expect(rt, "no refusal"),
@@ -89,10 +83,10 @@ fn byte_strings_lie_between_offsets(rt: HostRuntime) {
     must_cut(
         &rt,
         alloc,
-        strings(&rt, b"abbccc", &[0, 1, 3, 3, 6]),
+        &Cells::Strings(b"abbccc", &[0, 1, 3, 3, 6]),
         &[b"a", b"bb", b"", b"ccc"],
     );
-    must_cut(&rt, alloc, strings(&rt, b"", &[0, 0, 0]), &[b"", b""]);
+    must_cut(&rt, alloc, &Cells::Strings(b"", &[0, 0, 0]), &[b"", b""]);
 }
 
 #[test]
@@ -109,14 +103,9 @@ fn optional_data_lies_under_its_mask(rt: HostRuntime) {
 /// Where a box starts, and its shape.
 type Corner = (&'static [u64], &'static [u64]);
 
-fn box_at(rt: &impl Abort, alloc: Global, corner: Corner) -> ArraySubset {
-    let start = corner.0.to_vec(alloc).expect(rt, "no refusal");
-    let shape = corner.1.to_vec(alloc).expect(rt, "no refusal");
-    ArraySubset::new_with_start_shape(start, shape).expect(rt, "a box")
-}
-
 fn must_lie(rt: &impl Abort, alloc: Global, inner: Corner, outer: Corner, lies: bool) {
-    let (inner, outer) = (box_at(rt, alloc, inner), box_at(rt, alloc, outer));
+    let inner = box_at(rt, alloc, inner.0, inner.1);
+    let outer = box_at(rt, alloc, outer.0, outer.1);
     must_eq(rt, lies_in_box(&inner, &outer), lies);
 }
 

@@ -1,4 +1,4 @@
-//! Chains as their trait calls them, with chunks that no array has: those without a cell.
+//! Chains as their trait calls them, with chunks that no array has: those without a cell. The case files show the others.
 use crate::checks::{must, must_eq, must_for};
 use crate::data::{Cells, data_of, must_be, type_of, zero_of};
 use serde_json::Value;
@@ -6,11 +6,12 @@ use std::alloc::Global;
 use std::process::Abort;
 use zarrs_codec::{
     ArrayToArrayCodec, ArrayToBytesCodec, BytesCodec, BytesToBytesCodecs, ChainTraits, CodecChain,
-    CodecError, CodecOptions, Misfit, TransposeCodec, VlenUtf8Codec,
+    CodecError, CodecOptions, Misfit, PartialWrite, TransposeCodec, VlenUtf8Codec,
 };
 use zarrs_codec_array::encoded_shape;
-use zarrs_data_type::{CellType, ChunkType};
+use zarrs_data_type::{ArrayBytes, CellType, ChunkType};
 use zarrs_metadata_parts::MetadataV3;
+use zarrs_subset::{ArraySubset, element_count};
 
 const LITTLE: &str = r#"[{"name":"bytes","configuration":{"endian":"little"}}]"#;
 
@@ -69,28 +70,34 @@ fn cells_of(rt: &impl Abort, alloc: Global, name: &str) -> CellType {
     CellType::new(data_type, fill_value).expect(rt, "a fill value")
 }
 
-/// The cells encode to the bytes, and back.
+/// The cells of the row encode to its bytes, and back.
 fn must_encode(rt: &impl Abort, alloc: Global, row: &Row) {
     let (codecs, name, shape, cells, encoded) = row;
     let (chain, cell_type) = (chain_of(rt, alloc, codecs), cells_of(rt, alloc, name));
-    let data = data_of(rt, alloc, cells);
     let chunk = ChunkType {
         cell_type: &cell_type,
         shape: *shape,
     };
-    let count = zarrs_subset::element_count(shape).expect(rt, "a count");
-    must(rt, data.validate(&cell_type.data_type, count));
-    must_for(
-        rt,
-        *codecs,
-        chain
-            .fits(alloc, &cell_type.data_type, shape)
-            .expect(rt, "no refusal"),
-    );
-    let options = CodecOptions::default();
-    let made = chain.encode(alloc, &data, &chunk, &options);
-    must_eq(rt, made.expect(rt, "no refusal").as_slice(), *encoded);
-    must_decode(rt, alloc, &chain, &chunk, row);
+    must_code(rt, alloc, &chain, &chunk, cells, encoded);
+}
+
+/// The cells encode to the bytes, and back.
+fn must_code<C: ChainTraits>(
+    rt: &impl Abort,
+    alloc: Global,
+    chain: &C,
+    chunk: &ChunkType<'_>,
+    cells: &Cells,
+    encoded: &[u8],
+) {
+    let data = data_of(rt, alloc, cells);
+    let count = element_count(chunk.shape).expect(rt, "a count");
+    must(rt, data.validate(&chunk.cell_type.data_type, count));
+    let fits = chain.fits(alloc, &chunk.cell_type.data_type, chunk.shape);
+    must(rt, fits.expect(rt, "no refusal"));
+    let made = chain.encode(alloc, &data, chunk, &CodecOptions::default());
+    must_eq(rt, made.expect(rt, "no refusal").as_slice(), encoded);
+    must_decode(rt, alloc, chain, chunk, cells, encoded);
 }
 
 /// The bytes decode to the cells, and are compact.
@@ -99,18 +106,18 @@ fn must_decode<C: ChainTraits>(
     alloc: Global,
     chain: &C,
     chunk: &ChunkType<'_>,
-    row: &Row,
+    cells: &Cells,
+    encoded: &[u8],
 ) {
-    let (codecs, _, shape, cells, encoded) = row;
-    let count = zarrs_subset::element_count(chunk.shape).expect(rt, "a count");
+    let count = element_count(chunk.shape).expect(rt, "a count");
     must(
         rt,
         count < 100 && chunk.cell_type.data_type.cell_size() < 100,
     );
     let back = chain.decode(alloc, encoded, chunk);
     must_be(rt, &back.expect(rt, "no refusal"), cells);
-    let less = chain.compact(alloc, encoded, shape);
-    must_for(rt, *codecs, less.is_ok_and(|less| less.is_none()));
+    let less = chain.compact(alloc, encoded, chunk.shape);
+    must_for(rt, encoded, less.is_ok_and(|less| less.is_none()));
 }
 
 #[test]
@@ -139,6 +146,7 @@ fn chains_encode_chunks_with_and_without_cells(rt: HostRuntime) {
             Cells::Masked(&[1], &[5]),
             &[1, 0, 0, 0, 0, 0, 0, 0, 1, 0, 0, 0, 0, 0, 0, 0, 1, 5],
         ),
+        (SHARDS, "uint8", &[4], Cells::Numbers(&[0, 0, 5, 6]), SHARD),
         (LITTLE, "uint64", &[0], NONE, &[]),
         (TURN, "uint8", &[2, 0, 3], NONE, &[]),
         (JOIN, "uint8", &[0, 3, 4], NONE, &[]),
@@ -166,64 +174,42 @@ fn chains_encode_chunks_with_and_without_cells(rt: HostRuntime) {
     }
 }
 
-/// The cells 0, 0, 5 and 6: the subchunk of fill is absent.
-const SHARD: [u8; 36] = [
-    5, 0, 6, 0, 255, 255, 255, 255, 255, 255, 255, 255, 255, 255, 255, 255, 255, 255, 255, 255, 0,
-    0, 0, 0, 0, 0, 0, 0, 4, 0, 0, 0, 0, 0, 0, 0,
+/// The bytes 0, 0, 5 and 6: the subchunk of fill is absent.
+const SHARD: &[u8] = &[
+    5, 6, 255, 255, 255, 255, 255, 255, 255, 255, 255, 255, 255, 255, 255, 255, 255, 255, 0, 0, 0,
+    0, 0, 0, 0, 0, 2, 0, 0, 0, 0, 0, 0, 0,
 ];
 
-/// The same, with a gap before the data.
-const SHARD_WITH_GAP: [u8; 37] = [
-    238, 5, 0, 6, 0, 255, 255, 255, 255, 255, 255, 255, 255, 255, 255, 255, 255, 255, 255, 255,
-    255, 1, 0, 0, 0, 0, 0, 0, 0, 4, 0, 0, 0, 0, 0, 0, 0,
+/// The first byte becomes 9. Its subchunk stands where the index was, and the index behind it.
+const PUT: &[u8] = &[
+    9, 0, 2, 0, 0, 0, 0, 0, 0, 0, 2, 0, 0, 0, 0, 0, 0, 0, 0, 0, 0, 0, 0, 0, 0, 0, 2, 0, 0, 0, 0, 0,
+    0, 0,
 ];
+
+/// The first byte of a chunk of four.
+fn first_byte(rt: &impl Abort, alloc: Global) -> ArraySubset {
+    ArraySubset::new_with_ranges(alloc, &[0..1]).expect(rt, "no refusal")
+}
 
 #[test]
-fn shards_leave_out_subchunks_of_fill_and_compact(rt: HostRuntime) {
-    const CELLS: Cells = Cells::Numbers(&[0, 0, 0, 0, 5, 0, 6, 0]);
-    must_encode(&rt, rt.alloc(), &(SHARDS, "uint16", &[4], CELLS, &SHARD));
-    let chain = chain_of(&rt, rt.alloc(), SHARDS);
-    let less = chain.compact(rt.alloc(), &SHARD_WITH_GAP, &[4]);
+fn a_part_is_put_where_the_index_was(rt: HostRuntime) {
+    let alloc = rt.alloc();
+    let (chain, cell_type) = (chain_of(&rt, alloc, SHARDS), cells_of(&rt, alloc, "uint8"));
+    let (part, data) = (first_byte(&rt, alloc), ArrayBytes::from_flen(&[9]));
+    let chunk = ChunkType {
+        cell_type: &cell_type,
+        shape: &[4],
+    };
+    must(&rt, chain.supports_partial_encode());
+    must(&rt, part.dimensionality() == 1);
+    let count = part.num_elements().expect(&rt, "a count");
+    must(&rt, data.validate(&cell_type.data_type, count));
+    let options = CodecOptions::default();
+    let made = chain.partial_encode(alloc, Some(SHARD), &part, &data, &chunk, &options);
     must(
         &rt,
-        less.is_ok_and(|less| less.is_some_and(|less| less.as_slice() == SHARD.as_slice())),
+        matches!(&made, Ok(PartialWrite::Put(2, bytes)) if bytes.as_slice() == PUT),
     );
-    must_not_fit(&rt, rt.alloc(), SHARDS, "uint16", &[3]);
-    must_not_compact(&rt, rt.alloc(), SHARDS, &[4]);
-}
-
-fn must_not_fit(rt: &impl Abort, alloc: Global, codecs: &str, name: &str, shape: &[u64]) {
-    let (chain, data_type) = (chain_of(rt, alloc, codecs), type_of(rt, alloc, name));
-    let fits = chain.fits(alloc, &data_type, shape);
-    must_for(rt, codecs, !fits.expect(rt, "no refusal"));
-}
-
-fn must_not_compact(rt: &impl Abort, alloc: Global, codecs: &str, shape: &[u64]) {
-    let made = chain_of(rt, alloc, codecs).compact(alloc, &[1], shape);
-    must_for(
-        rt,
-        codecs,
-        made.is_err_and(|error| error == CodecError::DoesNotFit(Misfit::Bytes)),
-    );
-}
-
-#[test]
-fn chains_take_no_other_types_and_shapes(rt: HostRuntime) {
-    const ROWS: &[(&str, &str, &[u64])] = &[
-        (r#"["bytes"]"#, "uint16", &[1]),
-        (SWAP, "uint8", &[2]),
-        (SWAP, "string", &[2, 2]),
-        (LITTLE, "uint8?", &[2]),
-        (TEXTS, "bytes", &[2]),
-        (OPTIONAL, "uint8", &[2]),
-        (OPTIONAL, "uint8??", &[1]),
-    ];
-    for (codecs, name, shape) in ROWS {
-        must_not_fit(&rt, rt.alloc(), codecs, name, shape);
-    }
-    // Without shards no bytes have a compaction, whatever the shape is.
-    let less = chain_of(&rt, rt.alloc(), SWAP).compact(rt.alloc(), &[1], &[1]);
-    must(&rt, less.is_ok_and(|less| less.is_none()));
 }
 
 fn must_not_decode(rt: &impl Abort, alloc: Global, codecs: &str, name: &str, encoded: &[u8]) {
@@ -356,40 +342,11 @@ fn must_turn(
     codecs.push(turning(rt, alloc)).expect(rt, "no refusal");
     let chain = CodecChain::new(codecs, last, BytesToBytesCodecs);
     let (cell_type, shape) = (cells_of(rt, alloc, name), wide_shape(rt, alloc));
-    let data = data_of(rt, alloc, cells);
     let chunk = ChunkType {
         cell_type: &cell_type,
         shape: &shape,
     };
-    let count = zarrs_subset::element_count(&shape).expect(rt, "a count");
-    must(rt, data.validate(&cell_type.data_type, count));
-    must(
-        rt,
-        chain
-            .fits(alloc, &cell_type.data_type, &shape)
-            .expect(rt, "no refusal"),
-    );
-    let options = CodecOptions::default();
-    let made = chain.encode(alloc, &data, &chunk, &options);
-    must_eq(rt, made.expect(rt, "no refusal").as_slice(), encoded);
-    must_turn_back(rt, alloc, &chain, &chunk, (cells, encoded));
-}
-
-/// The bytes of a wide array decode to the cells.
-fn must_turn_back<C: ChainTraits>(
-    rt: &impl Abort,
-    alloc: Global,
-    chain: &C,
-    chunk: &ChunkType<'_>,
-    (cells, encoded): (&Cells, &[u8]),
-) {
-    let count = zarrs_subset::element_count(chunk.shape).expect(rt, "a count");
-    must(
-        rt,
-        count < 100 && chunk.cell_type.data_type.cell_size() < 100,
-    );
-    let back = chain.decode(alloc, encoded, chunk);
-    must_be(rt, &back.expect(rt, "no refusal"), cells);
+    must_code(rt, alloc, &chain, &chunk, cells, encoded);
 }
 
 #[test]

@@ -2,7 +2,8 @@
 //! that the test owns. A call of these takes one.
 ghost use Rattle.std.specs.Prelude.{IsTrue};
 
-use std::fmt::Debug;
+use std::alloc::Global;
+use std::fmt::{Debug, Display};
 use std::process::Abort;
 
 /// Ends the test, except if this holds.
@@ -20,4 +21,10 @@ pub(crate) fn must_for<C: Copy + Debug>(rt: &impl Abort, case: C, holds: bool) {
 /// Ends the test and prints both values, except if they are equal.
 pub(crate) fn must_eq<T: Copy + PartialEq + Debug>(rt: &impl Abort, found: T, wanted: T) {
     assert_eq!(rt; found, wanted);
+}
+
+/// Ends the test and prints both texts, except if the value is shown so.
+pub(crate) fn must_say<T: Display>(rt: &impl Abort, alloc: Global, value: &T, text: &str) {
+    let said = format!(in alloc; "{value}").expect(rt, "no refusal");
+    must_eq(rt, said.as_str(), text);
 }

@@ -1,5 +1,5 @@
 //! Single codecs that a program makes, options, and the texts of refusals.
-use crate::checks::{must, must_eq, must_for};
+use crate::checks::{must, must_eq, must_for, must_say};
 use std::alloc::Global;
 use std::num::NonZeroU64;
 use std::process::Abort;
@@ -141,11 +141,6 @@ fn subchunks_are_written_in_row_major_order(rt: HostRuntime) {
     let options = CodecSpecificOptions::default().with_option(sharding);
     must_eq(&rt, options.sharding(), ShardingCodecOptions::default());
     must_eq(&rt, options, CodecSpecificOptions::default());
-}
-
-fn must_say(rt: &impl Abort, alloc: Global, error: &CodecError, text: &str) {
-    let said = format!(in alloc; "{error}").expect(rt, "no refusal");
-    must_eq(rt, said.as_str(), text);
 }
 
 #[test]

@@ -1,10 +1,14 @@
-//! Types and cells that the tests name in tables.
+//! Types, boxes and cells that the tests name in tables.
+ghost use Rattle.std.specs.Prelude.{◌≡◌};
+ghost use Rattle.zarrs_subset.specs.Regions.{box_from, box_of};
+
 use crate::checks::{must_eq, must_for};
 use std::alloc::Global;
 use std::borrow::CowSlice;
 use std::process::Abort;
 use zarrs_data_type::{ArrayBytes, ArrayBytesOffsets, ArrayBytesOptional, DataType, FillValue};
 use zarrs_metadata_parts::MetadataV3;
+use zarrs_subset::ArraySubset;
 
 /// Data in memory.
 pub(crate) enum Cells {
@@ -25,6 +29,15 @@ pub(crate) fn type_of(rt: &impl Abort, alloc: Global, name: &str) -> DataType {
         data_type = DataType::Optional(Box::new(alloc, data_type).expect(rt, "no refusal"));
     }
     data_type
+}
+
+/// The box of this start and this shape.
+pub(crate) fn box_at(rt: &impl Abort, alloc: Global, start: &[u64], shape: &[u64]) -> ArraySubset
+    ensures { box_of result ≡ box_from start.now shape.now }
+{
+    let start = Vec::from_slice(alloc, start).expect(rt, "no refusal");
+    let shape = Vec::from_slice(alloc, shape).expect(rt, "no refusal");
+    ArraySubset::new_with_start_shape(start, shape).expect(rt, "no refusal")
 }
 
 /// The fill value of zeros: none, an empty text, or a number.

@@ -17,8 +17,6 @@ mod data;
 #[cfg(test)]
 mod grids;
 #[cfg(test)]
-mod partial;
-#[cfg(test)]
 mod shards;
 #[cfg(test)]
 mod targets;

@@ -3,17 +3,11 @@
 ghost use Rattle.zarrs_data_type.specs.States.{IsSameTarget};
 
 use crate::checks::{must, must_eq};
-use crate::data::{Cells, data_of};
+use crate::data::{Cells, box_at, data_of};
 use std::alloc::Global;
 use std::process::Abort;
 use zarrs_data_type::{ArrayBytes, ArrayBytesDecodeIntoTarget};
 use zarrs_subset::{ArraySubset, lies_in_box};
-
-fn box_at(rt: &impl Abort, alloc: Global, start: &[u64], shape: &[u64]) -> ArraySubset {
-    let start = start.to_vec(alloc).expect(rt, "no refusal");
-    let shape = shape.to_vec(alloc).expect(rt, "no refusal");
-    ArraySubset::new_with_start_shape(start, shape).expect(rt, "a box")
-}
 
 /// Writes the cells of the target's box.
 fn write(

@@ -1,8 +1,8 @@
 //! Types, their values as bytes, and the texts of refusals.
-use crate::checks::{must, must_eq, must_for};
+use crate::checks::{must, must_eq, must_for, must_say};
+use crate::data::type_of;
 use serde_json::Value;
 use std::alloc::{AllocError, Global};
-use std::fmt::Display;
 use std::process::Abort;
 use zarrs_data_type::{
     ArrayBytesFixedDisjointViewCreateError, DataType, DataTypeFillValueError,
@@ -10,18 +10,7 @@ use zarrs_data_type::{
     ExpectedOptionalBytesError, ExpectedVariableLengthBytesError, FillValue, inner_fill,
 };
 use zarrs_data_type_kinds::laws::written_fill_value_is_read;
-use zarrs_metadata_parts::{FillValueMetadata, MetadataV3};
-
-/// The type of this name. A `?` behind it makes it optional.
-pub(crate) fn type_of(rt: &impl Abort, alloc: Global, name: &str) -> DataType {
-    let plain = name.trim_end_matches('?');
-    let metadata = MetadataV3::new(String::from_str(alloc, plain).expect(rt, "no refusal"));
-    let mut data_type = DataType::from_metadata(alloc, &metadata).expect(rt, "no refusal");
-    for _ in plain.len()..name.len() {
-        data_type = DataType::Optional(Box::new(alloc, data_type).expect(rt, "no refusal"));
-    }
-    data_type
-}
+use zarrs_metadata_parts::FillValueMetadata;
 
 fn must_have_sizes(
     rt: &impl Abort,
@@ -180,11 +169,6 @@ fn fill_values_that_no_document_of_zarr_v2_has(rt: HostRuntime) {
     for (name, text, bytes) in ROWS {
         must_fill_in_v2(&rt, rt.alloc(), name, text, *bytes);
     }
-}
-
-fn must_say<E: Display>(rt: &impl Abort, alloc: Global, error: &E, expected: &str) {
-    let text = format!(in alloc; "{error}").expect(rt, "no refusal");
-    must_eq(rt, text.as_str(), expected);
 }
 
 #[test]

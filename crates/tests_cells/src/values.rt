@@ -1,9 +1,8 @@
 //! Values of the language that become cells, shapes, names and fill values, and are read from cells.
 ghost use Rattle.std.specs.Prelude.{◌≡◌, ◌%◌, length};
 
-use crate::cells::strings;
 use crate::checks::{must, must_eq, must_for};
-use crate::types::type_of;
+use crate::data::{Cells, data_of, type_of};
 use std::alloc::Global;
 use std::process::Abort;
 use zarrs_data_type::{
@@ -90,12 +89,8 @@ fn optional_values_nest(rt: HostRuntime) {
 }
 
 /// The data is read as no values of this type of the language.
-fn must_not_be_read<T: ElementOwned>(
-    rt: &impl Abort,
-    alloc: Global,
-    name: &str,
-    data: ArrayBytes<'_>,
-) {
+fn must_not_be_read<T: ElementOwned>(rt: &impl Abort, alloc: Global, name: &str, cells: &Cells) {
+    let data = data_of(rt, alloc, cells);
     let read = <T as ElementOwned>::from_array_bytes(alloc, &type_of(rt, alloc, name), data);
     must_for(
         rt,
@@ -108,21 +103,18 @@ fn must_not_be_read<T: ElementOwned>(
 #[test]
 fn data_of_another_kind_is_not_read(rt: HostRuntime) {
     let alloc = rt.alloc();
-    const FIXED: &[u8] = &[0, 2, 1];
-    must_not_be_read::<bool>(&rt, alloc, "bool", ArrayBytes::from_flen(FIXED));
-    must_not_be_read::<bool>(&rt, alloc, "bool", strings(&rt, b"a", &[0, 1]));
-    must_not_be_read::<u8>(&rt, alloc, "uint8", strings(&rt, b"a", &[0, 1]));
-    must_not_be_read::<u16>(&rt, alloc, "uint16", ArrayBytes::from_flen(FIXED));
-    must_not_be_read::<String>(&rt, alloc, "string", ArrayBytes::from_flen(FIXED));
-    must_not_be_read::<String>(
-        &rt,
-        alloc,
-        "string",
-        strings(&rt, &[0xC3, 0xA4], &[0, 1, 2]),
-    );
-    must_not_be_read::<Vec<u8>>(&rt, alloc, "bytes", ArrayBytes::from_flen(FIXED));
-    must_not_be_read::<Option<u8>>(&rt, alloc, "uint8?", ArrayBytes::from_flen(FIXED));
-    must_not_be_read::<Option<u8>>(&rt, alloc, "uint8", ArrayBytes::from_flen(FIXED));
+    const FIXED: &Cells = &Cells::Numbers(&[0, 2, 1]);
+    const TEXT: &Cells = &Cells::Strings(b"a", &[0, 1]);
+    const CUT: &Cells = &Cells::Strings(&[0xC3, 0xA4], &[0, 1, 2]);
+    must_not_be_read::<bool>(&rt, alloc, "bool", FIXED);
+    must_not_be_read::<bool>(&rt, alloc, "bool", TEXT);
+    must_not_be_read::<u8>(&rt, alloc, "uint8", TEXT);
+    must_not_be_read::<u16>(&rt, alloc, "uint16", FIXED);
+    must_not_be_read::<String>(&rt, alloc, "string", FIXED);
+    must_not_be_read::<String>(&rt, alloc, "string", CUT);
+    must_not_be_read::<Vec<u8>>(&rt, alloc, "bytes", FIXED);
+    must_not_be_read::<Option<u8>>(&rt, alloc, "uint8?", FIXED);
+    must_not_be_read::<Option<u8>>(&rt, alloc, "uint8", FIXED);
 }
 
 fn must_have_bytes(rt: &impl Abort, data: &ArrayBytes<'_>, bytes: &[u8]) {

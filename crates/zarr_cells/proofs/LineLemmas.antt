@@ -12,7 +12,7 @@ use Rattle.std.proofs.lemmas.List.{get_or_append_left}
 use Rattle.std.proofs.Math.Seq.{take-append_seam, get_or-append_seam, take-length}
 use Rattle.zarr_cells.specs.declared.form.Form.{Form}
 use Rattle.zarr_cells.specs.Numbers.{AreSolid, cell_in}
-use Rattle.zarr_cells.specs.Lines.{trimmed, closing, ending, opening, closed, unclosed, unopened, word_in, is_first, is_last, next, column_after, joined, first_cell, behind, cells_in, WritesCell, WritesCells, ReadsCell, ReadsCells}
+use Rattle.zarr_cells.specs.Lines.{trimmed, closing, ending, opening, closed, unclosed, unopened, word_in, is_first, is_last, next, column_after, joined, first_cell, behind, cells_in, WritesCell, WritesCells, ReadsCell, ReadsCells, Extends}
 use Rattle.zarr_cells.proofs.WordLemmas.{appends_both}
 
 -- ---- words
@@ -334,3 +334,17 @@ module _ (form : Form) (size width : ℕ) where
         there.3,
         ap (λ l. l ++ others) front.4 ∙ ap (λ l. front.0 ++ l) there.4,
       )
+
+-- ---- what was there stays
+
+pub extends_none : (bytes : List ℕ) → Extends bytes bytes
+extends_none bytes = record { added = []; is = sym (append-nil bytes) }
+
+pub extends_more : (first between last : List ℕ) → Extends first between → Extends between last → Extends first last
+extends_more first between last one other = record { added = one.added ++ other.added; is = other.is ∙ ap (λ l. l ++ other.added) one.is ∙ append_assoc first one.added other.added }
+
+pub extends_same : (before after : List ℕ) → after ≡ before → Extends before after
+extends_same before after is = record { added = []; is = is ∙ sym (append-nil before) }
+
+pub extends_by : (before added after : List ℕ) → after ≡ before ++ added → Extends before after
+extends_by before added after is = record { added = added; is = is }

@@ -1,6 +1,8 @@
 -- Lists that a loop makes, item by item.
-use Rattle.std.proofs.Common.{◌≡◌, ℕ, ◌^◌, ◌<◌, Bool, true, List, [], ◌∷◌, ◌++◌, length, map, not, decimal, Option, Some, None, refl, sym, ap, ◌∙◌, subst, append_assoc, append-nil}
-use Rattle.std.specs.Prelude.{bytes_eq}
+use Rattle.std.proofs.Common.{◌≡◌, ℕ, zero, suc, ◌+◌, ◌-◌, ◌%◌, ◌^◌, ◌<◌, Bool, true, false, List, [], ◌∷◌, ◌++◌, length, get_or, map, not, replicate, decimal, Option, Some, None, inl, inr, refl, sym, ap, ◌∙◌, subst, append_assoc, append-nil, length-append, arith}
+use Rattle.std.specs.List.{Any}
+use Rattle.std.proofs.lemmas.List.{get_or-map, length-map, length-replicate, replicate_more}
+use Rattle.std.specs.Prelude.{◌⊎◌, bytes_eq, codes, IfErr, Result, Ok, Err}
 use Rattle.std.specs.Borrow.{Bor}
 use Rattle.std.proofs.lemmas.Slice.Eq.{bytes_eq-Decides}
 use Rattle.std.specs.Char.{is_ascii_whitespace}
@@ -8,7 +10,10 @@ use Rattle.std.specs.Int.{w16, to_le_bytes}
 use Rattle.std.specs.Io.KnownBytes.{Consumes}
 use Rattle.std.proofs.lemmas.List.Elements.{filter-append}
 use Rattle.zarr_cells.specs.Numbers.{number_in}
-use Rattle.zarr_cells.specs.Npy.{extents, without_blanks, magic, header_bytes, ReadsHeader}
+use Rattle.zarr_cells.specs.Words.{parts_between, SaysNoNumbers}
+use Rattle.zarr_cells.specs.declared.error.CellsError.{CellsError}
+use Rattle.zarr_cells.specs.declared.error.CellsError.TheVariants.{OutOfMemory}
+use Rattle.zarr_cells.specs.Npy.{blank_count, extents, header_bytes, magic, padded, without_blanks, IsHeader, ReadsHeader}
 
 -- ---- numbers
 
@@ -19,6 +24,24 @@ parts_said parts words numbers are says = says ∙ fused parts ∙ ap (map numbe
     fused : (l : List (Bor (List ℕ))) → map (λ (part : Bor (List ℕ)). number_in part.now) l ≡ map number_in (map (λ (part : Bor (List ℕ)). part.now) l)
     fused [] = refl
     fused (part ∷ l) = ap (λ r. number_in part.now ∷ r) (fused l)
+
+-- a part is no number, and so a word is none
+pub any_said : (parts : List (Bor (List ℕ))) (words : List (List ℕ)) → map (λ (part : Bor (List ℕ)). part.now) parts ≡ words
+    → Any (λ (part : Bor (List ℕ)). number_in part.now ≡ None) parts → Any (λ word. number_in word ≡ None) words
+any_said parts words are some =
+    let inside : some.0 < length words = subst (λ (n : ℕ). some.0 < n) (sym (length-map parts (λ (part : Bor (List ℕ)). part.now)) ∙ ap length are) some.2 in
+    let at : get_or words some.0 some.1.now ≡ some.1.now =
+    ap (λ (l : List (List ℕ)). get_or l some.0 some.1.now) (sym are) ∙ get_or-map (λ (part : Bor (List ℕ)). part.now) parts some.0 some.1 some.1.now some.2
+    ∙ ap (λ (part : Bor (List ℕ)). part.now) some.3 in
+    (some.0, some.1.now, inside, at, some.4)
+
+-- no list of numbers, for one of its parts
+pub numbers_refused : {T : Type 0} (word : List ℕ) (parts : List (Bor (List ℕ))) (r : Result T CellsError) → bytes_eq word (codes "-") ≡ false
+    → map (λ (part : Bor (List ℕ)). part.now) parts ≡ parts_between word
+    → IfErr r (λ e. (e ≡ OutOfMemory) ⊎ Any (λ (part : Bor (List ℕ)). number_in part.now ≡ None) parts) → IfErr r (λ e. (e ≡ OutOfMemory) ⊎ SaysNoNumbers word)
+numbers_refused word parts (Ok numbers) other are refused = tt
+numbers_refused word parts (Err e) other are refused =
+    elim refused [ inl short ↦ inl short | inr some ↦ inr (other, any_said parts (parts_between word) are some) ]
 
 -- ---- extents
 
@@ -37,6 +60,41 @@ blank_behind text blank is =
     filter-append (λ byte. not (is_ascii_whitespace byte)) text (blank ∷ [])
     ∙ ap (λ l. without_blanks text ++ l) (let none : without_blanks (blank ∷ []) ≡ [] = rw is refl in none)
     ∙ append-nil (without_blanks text)
+
+blanks_gone : (n : ℕ) → without_blanks (replicate n 32) ≡ []
+blanks_gone zero = refl
+blanks_gone (suc n) = blanks_gone n
+
+-- one blank more
+pub blank_more : (made text : List ℕ) (n : ℕ) → made ≡ text ++ replicate n 32 → made ++ 32 ∷ [] ≡ text ++ replicate (n + 1) 32
+blank_more made text n is = ap (λ l. l ++ 32 ∷ []) is ∙ append_assoc text (replicate n 32) (32 ∷ []) ∙ ap (λ l. text ++ l) (replicate_more n 32)
+
+pub without_padding : (text : List ℕ) → without_blanks (padded text) ≡ without_blanks text
+without_padding text =
+    blank_behind (text ++ replicate (blank_count text) 32) 10 refl ∙ filter-append (λ byte. not (is_ascii_whitespace byte)) text (replicate (blank_count text) 32)
+    ∙ ap (λ l. without_blanks text ++ l) (blanks_gone (blank_count text)) ∙ append-nil (without_blanks text)
+
+whole_size : (n : ℕ) → (10 + (n + (63 - (n % 64 + 10) % 64) + 1)) % 64 ≡ 0
+whole_size n = omega arith
+
+-- a header is a multiple of 64 bytes
+pub padded_size : (text : List ℕ) → length (header_bytes (padded text)) % 64 ≡ 0
+padded_size text =
+    let n = blank_count text in
+    let blanks : length (replicate n 32) ≡ n = length-replicate n 32 in
+    let size : length (padded text) ≡ length text + n + 1 =
+    length-append (text ++ replicate n 32) (10 ∷ []) ∙ ap (λ k. k + 1) (length-append text (replicate n 32) ∙ ap (λ k. length text + k) blanks) in
+    let whole : length (header_bytes (padded text)) ≡ 10 + (length text + n + 1) =
+    length-append magic (to_le_bytes w16 (length (padded text)) ++ padded text)
+    ∙ ap (λ k. 8 + k) (length-append (to_le_bytes w16 (length (padded text))) (padded text)) ∙ omega (arith, size) in
+    ap (λ k. k % 64) whole ∙ whole_size (length text)
+
+pub padded_bytes_size : (says bytes : List ℕ) → bytes ≡ header_bytes (padded says) → length bytes % 64 ≡ 0
+padded_bytes_size says bytes is = ap (λ (l : List ℕ). length l % 64) is ∙ padded_size says
+
+-- what is written is a header
+pub padded_header : (says bytes : List ℕ) → bytes ≡ header_bytes (padded says) → length (padded says) < 2 ^ 16 → IsHeader says bytes
+padded_header says bytes is short = record { text = padded says; is = is; short = short; same = without_padding says }
 
 -- ---- what a reader gave, piece by piece
 

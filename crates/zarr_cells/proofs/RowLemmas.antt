@@ -1,10 +1,13 @@
 -- Regions that are cut along a dimension.
-use Rattle.std.proofs.Common.{◌≡◌, ℕ, zero, suc, ◌+◌, ◌-◌, ◌*◌, ◌<◌, ◌≤◌, List, [], ◌∷◌, ◌++◌, length, map, slice_index, slice_set, max, refl, sym, ap, ◌∙◌, inl, inr, append-nil, arith}
+use Rattle.std.proofs.Common.{◌≡◌, ℕ, zero, suc, ◌+◌, ◌-◌, ◌*◌, ◌^◌, ◌<◌, ◌≤◌, List, [], ◌∷◌, ◌++◌, length, map, slice_index, slice_set, max, refl, sym, ap, ◌∙◌, inl, inr, append-nil, arith}
 use Rattle.std.specs.List.{flat_map, range_with_len}
 use Rattle.std.proofs.lemmas.Bool.{cases_eq}
 use Rattle.std.proofs.lemmas.List.{map-append, length-set, get_or-set_same, get_or-set_other}
 use Rattle.std.proofs.lemmas.List.Concat.{flat_map-append}
-use Rattle.zarrs_subset.specs.Boxes.{positions_from, position_count}
+use Rattle.zarrs_subset.specs.Boxes.{positions_from, position_count, EndsFit}
+use Rattle.zarrs_subset.specs.Refusals.{RefusesStartShape}
+use Rattle.zarrs_subset.specs.declared.error.ArraySubsetError.{ArraySubsetError}
+use Rattle.zarrs_subset.specs.declared.error.ArraySubsetError.TheVariants.{IncompatibleDimensionality, EndOverflow, EndBelowStart, StartBelowOffset, OutOfMemory}
 use Rattle.zarrs_subset.specs.Regions.{Box, positions}
 use Rattle.zarr_cells.specs.Rows.{AreOnes}
 
@@ -88,3 +91,28 @@ count_ones (n ∷ shape) (suc axis) past ones =
 
 pub count_one : (shape : List ℕ) (axis most : ℕ) → length shape ≤ axis → AreOnes shape axis → position_count shape ≤ max 1 most
 count_one shape axis most past ones = let one = count_ones shape axis past ones in omega (arith, one)
+
+-- ---- refusals
+
+-- a box that gets another start and another extent along one axis has no end past 64 bits but there
+pub end_passes : (start shape : List ℕ) (axis first rows : ℕ) (why : ArraySubsetError) → length start ≡ length shape → EndsFit start shape → axis < length start
+    → RefusesStartShape (slice_set start axis first) (slice_set shape axis rows) why → 2 ^ 64 ≤ first + rows
+end_passes start shape axis first rows (IncompatibleDimensionality error) long fit inside refused =
+    absurd (refused.0 (length-set start axis first ∙ long ∙ sym (length-set shape axis rows)))
+end_passes start shape axis first rows EndOverflow long fit inside refused =
+    let k = refused.1.0 in
+    let large : 2 ^ 64 ≤ slice_index (slice_set start axis first) k + slice_index (slice_set shape axis rows) k = refused.1.2 in
+    elim (cases_eq k axis) [
+      | inl at ↦
+          let one : slice_index (slice_set start axis first) k ≡ first = ap (slice_index (slice_set start axis first)) at ∙ get_or-set_same start axis first 0 inside in
+          let other : slice_index (slice_set shape axis rows) k ≡ rows = ap (slice_index (slice_set shape axis rows)) at ∙ get_or-set_same shape axis rows 0 (omega arith) in
+          omega arith
+      | inr apart ↦
+          let one : slice_index (slice_set start axis first) k ≡ slice_index start k = get_or-set_other start axis k first 0 apart in
+          let other : slice_index (slice_set shape axis rows) k ≡ slice_index shape k = get_or-set_other shape axis k rows 0 apart in
+          let small : slice_index start k + slice_index shape k < 2 ^ 64 = fit k in
+          absurd (omega arith)
+    ]
+end_passes start shape axis first rows EndBelowStart long fit inside refused = absurd refused
+end_passes start shape axis first rows StartBelowOffset long fit inside refused = absurd refused
+end_passes start shape axis first rows OutOfMemory long fit inside refused = absurd refused

@@ -6,3 +6,4 @@ pub mod Numbers
 pub mod Raw
 pub mod Rows
 pub mod Words
+pub mod Refusals

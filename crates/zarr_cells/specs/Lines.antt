@@ -104,3 +104,8 @@ module _ (form : Form) (size width : ℕ) where
   abbrev pub ReadsCells : ℕ → ℕ → Option (List ℕ) → Option (List ℕ) → List ℕ → List ℕ → Type 0
   ReadsCells count column old new before after =
       IfSome old (λ text. (cells : List ℕ) × (left : List ℕ) × (cells_in count column text ≡ Some (cells, left)) × (new ≡ Some left) × (after ≡ before ++ cells))
+
+-- some bytes were added behind those that were there
+pub record Extends (before after : List ℕ) : Type 0 where
+  pub added : List ℕ
+  pub is : after ≡ before ++ added

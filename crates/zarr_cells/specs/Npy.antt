@@ -1,5 +1,5 @@
 -- Numpy's format: a header that says the type and the shape, and then the cells.
-use Rattle.std.specs.Prelude.{◌≡◌, ◌==◌, ℕ, ◌-◌, ◌<◌, ◌^◌, List, [], ◌∷◌, ◌++◌, Option, Some, None, length, take, filter, not, codes, decimal, if◌then◌else◌}
+use Rattle.std.specs.Prelude.{◌≡◌, ◌==◌, ℕ, ◌+◌, ◌-◌, ◌%◌, ◌<◌, ◌^◌, List, [], ◌∷◌, ◌++◌, Option, Some, None, length, take, filter, replicate, not, codes, decimal, if◌then◌else◌}
 use Rattle.std.specs.Char.{is_ascii_whitespace}
 use Rattle.std.specs.Int.{w16, to_le_bytes}
 use Rattle.std.specs.Io.KnownBytes.{Consumes}
@@ -44,6 +44,14 @@ magic = 147 ∷ 78 ∷ 85 ∷ 77 ∷ 80 ∷ 89 ∷ 1 ∷ 0 ∷ []
 -- the bytes of the header with this text
 abbrev pub header_bytes : List ℕ → List ℕ
 header_bytes text = magic ++ (to_le_bytes w16 (length text) ++ text)
+
+-- how many blanks, and a newline behind them, make the header with this text a multiple of 64 bytes
+abbrev pub blank_count : List ℕ → ℕ
+blank_count text = 63 - (length text % 64 + 10) % 64
+
+-- the text with these behind it
+abbrev pub padded : List ℕ → List ℕ
+padded text = text ++ replicate (blank_count text) 32 ++ 10 ∷ []
 
 -- the bytes are a header that says this, whatever its blanks
 pub record IsHeader (says bytes : List ℕ) : Type 0 where

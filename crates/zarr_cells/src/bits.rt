@@ -1,7 +1,9 @@
 //! The bits that words say.
-ghost use Rattle.std.specs.Prelude.{◌≡◌, ◌≤◌, ◌<◌, ◌^◌, ◌==◌, length, slice_index, take, MatchOption, OnOk, Some, None};
+ghost use Rattle.std.specs.Prelude.{◌≡◌, ◌≤◌, ◌<◌, ◌^◌, ◌==◌, length, slice_index, string_bytes, take};
+ghost use Rattle.std.specs.Prelude.{MatchOption, IfOk, OnOk, Some, None};
 ghost use Rattle.std.specs.Int.{w64, from_le_bytes};
-ghost use Rattle.zarr_cells.specs.Numbers.{number_in, negative_in, signed_in, bool_in, bits_in, widened, is_below_zero, cell_of, cell_in, WritesBits};
+ghost use Rattle.zarr_cells.specs.Numbers.{bits_in, bool_in, cell_in, cell_of, is_below_zero, negative_in};
+ghost use Rattle.zarr_cells.specs.Numbers.{number_in, signed_in, widened, WritesBits};
 
 use crate::error::CellsError;
 use crate::floats::{float_bits, write_float};
@@ -209,12 +211,16 @@ pub(crate) fn write_bits<W: Write>(out: &mut W, form: Form, bits: u64) -> io::Re
 /// Returns the word of a cell.
 ///
 /// # Errors
-/// No word says the cell; out of memory.
-pub fn cell_text(alloc: Global, form: Form, cell: &[u8]) -> Result<String, CellsError> {
-    let mut text = Vec::new(alloc);
-    if cell.len() <= 8 {
-        write_bits(&mut text, form, cell_bits(form, cell))?;
+/// No word says the cell, as one of more than 8 bytes; out of memory.
+pub fn cell_text(alloc: Global, form: Form, cell: &[u8]) -> Result<String, CellsError>
+    ensures { IfOk result
+        (λ text. cell_in form (length cell.now) (string_bytes text) ≡ Some cell.now) }
+{
+    if cell.len() > 8 {
+        return Err(CellsError::said(alloc, "a cell has more than 8 bytes"));
     }
+    let mut text = Vec::new(alloc);
+    write_bits(&mut text, form, cell_bits(form, cell))?;
     match String::from_utf8(text) {
         Ok(text) => Ok(text),
         Err(_) => Err(CellsError::said(alloc, "a cell is no text")),

@@ -1,9 +1,10 @@
 //! Cells of one size, as their bytes.
-ghost use Rattle.std.specs.Prelude.{◌≡◌, ◌≤◌, IfOk, OnOk};
+ghost use Rattle.std.specs.Prelude.{◌≡◌, ◌⊎◌, ◌≤◌, ◌*◌, ◌^◌, IfErr, IfOk, None, OnOk, Some};
 ghost use Rattle.zarrs_data_type.specs.ArrayData.{data_of, fixed};
-ghost use Rattle.zarrs_data_type.specs.Kind.{kind};
+ghost use Rattle.zarrs_data_type.specs.Kind.{element_size, kind};
+ghost use Rattle.zarrs_subset.specs.Regions.{box_of};
 ghost use Rattle.zarr_cells.specs.Forms.{form_of};
-ghost use Rattle.zarr_cells.specs.Raw.{ReadsRaw, WritesRaw};
+ghost use Rattle.zarr_cells.specs.Raw.{HasRawSize, RefusesRawSize, ReadsRaw, WritesRaw};
 
 use crate::error::CellsError;
 use crate::form::{Form, Width};
@@ -87,7 +88,10 @@ pub fn raw_size(
     alloc: Global,
     data_type: &DataType,
     region: &ArraySubset,
-) -> Result<u64, CellsError> {
+) -> Result<u64, CellsError>
+    ensures size { IfOk result (HasRawSize (kind data_type.now) (box_of region.now).shape) }
+    ensures refused { IfErr result (RefusesRawSize (kind data_type.now) (box_of region.now).shape) }
+{
     let Some(size) = data_type.element_size() else {
         return Err(no_raw_form(alloc));
     };

@@ -1,4 +1,7 @@
 //! Why words, lines or bytes are refused.
+ghost use Rattle.std.specs.Prelude.{◌≡◌};
+ghost use Rattle.zarr_cells.specs.declared.error.CellsError.TheVariants as refusal;
+
 use std::alloc::{AllocError, AllocFailed, Global};
 use std::{fmt, io};
 use zarrs_subset::{ArraySubsetError, SizeOverflow};
@@ -19,8 +22,12 @@ pub enum CellsError {
 }
 
 impl CellsError {
+    ghost use Rattle.zarr_cells.specs.Refusals.{SaysText};
+
     /// Makes the error with this text, or `OutOfMemory`.
-    pub fn said(alloc: Global, text: &str) -> CellsError {
+    pub fn said(alloc: Global, text: &str) -> CellsError
+        ensures { SaysText text.now result }
+    {
         match String::from_str(alloc, text) {
             Ok(text) => CellsError::Said(text),
             Err(_) => CellsError::OutOfMemory,
@@ -41,30 +48,40 @@ impl fmt::Display for CellsError {
 }
 
 impl From<ArraySubsetError> for CellsError {
+    ghost from_gives = { λ error e. e ≡ refusal.Subset error };
+
     fn from(error: ArraySubsetError) -> CellsError {
         CellsError::Subset(error)
     }
 }
 
 impl From<SizeOverflow> for CellsError {
+    ghost from_gives = { λ _ e. e ≡ refusal.SizeOverflow };
+
     fn from(_error: SizeOverflow) -> CellsError {
         CellsError::SizeOverflow
     }
 }
 
 impl From<io::Error> for CellsError {
+    ghost from_gives = { λ error e. e ≡ refusal.Io error };
+
     fn from(error: io::Error) -> CellsError {
         CellsError::Io(error)
     }
 }
 
 impl From<AllocError> for CellsError {
+    ghost from_gives = { λ _ e. e ≡ refusal.OutOfMemory };
+
     fn from(_error: AllocError) -> CellsError {
         CellsError::OutOfMemory
     }
 }
 
 impl<T: Drop> From<AllocFailed<T>> for CellsError {
+    ghost from_gives = { λ _ e. e ≡ refusal.OutOfMemory };
+
     fn from(_error: AllocFailed<T>) -> CellsError {
         CellsError::OutOfMemory
     }

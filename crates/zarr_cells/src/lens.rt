@@ -1,4 +1,6 @@
 //! What the array layer sees of a foreign document: one that it reads, and whose cells are the same bytes.
+ghost use Rattle.std.specs.Prelude.{◌≡◌, ◌&&◌, not, is_none};
+
 use crate::error::CellsError;
 use crate::floats::value_bits;
 use crate::form::Width;
@@ -26,7 +28,9 @@ pub const CLEAR: Lens = Lens {
 
 impl Lens {
     /// Returns whether a document is seen as it is, so that it may be written back.
-    pub fn is_clear(&self) -> bool {
+    pub fn is_clear(&self) -> bool
+        ensures { result ≡ (is_none self.now.floats && not self.now.is_partial) }
+    {
         self.floats.is_none() && !self.is_partial
     }
 }

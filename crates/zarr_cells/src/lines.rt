@@ -1,8 +1,10 @@
 //! Cells as text: a JSON list for each row, on a line of its own.
-ghost use Rattle.std.specs.Prelude.{◌≡◌, ◌≤◌, ◌<◌, ◌++◌, ℕ, List, length, take, vec_items, MatchOption, IfOk, OnOk, Some, None};
-ghost use Rattle.std.specs.Prelude.{if◌then◌else◌};
+ghost use Rattle.std.specs.Prelude.{◌≡◌, ◌≤◌, ◌<◌, ◌++◌, ℕ, List, length, take, vec_items, if◌then◌else◌};
+ghost use Rattle.std.specs.Prelude.{MatchOption, IfOk, OnOk, Some, None};
 ghost use Rattle.std.specs.Io.KnownBytes.{Appends};
-ghost use Rattle.zarr_cells.specs.Lines.{trimmed, unclosed, unopened, word_in, is_first, is_last, next, column_after, cell_at, ReadsCell, ReadsCells, WritesCell, WritesCells, opening, closed};
+ghost use Rattle.zarr_cells.specs.Lines.{cell_at, closed, column_after, is_first, is_last, next, opening};
+ghost use Rattle.zarr_cells.specs.Lines.{trimmed, unclosed, unopened, word_in, Extends, ReadsCell};
+ghost use Rattle.zarr_cells.specs.Lines.{ReadsCells, WritesCell, WritesCells};
 
 use crate::bits::{cell_bits, word_cell, write_bits};
 use crate::error::CellsError;
@@ -70,8 +72,9 @@ fn write_cell<W: Write>(out: &mut W, rows: &Rows, column: u64, cell: &[u8]) -> i
 /// # Errors
 /// `InvalidData` for cells of no byte or more than 8, and for bytes behind the last whole cell; what the writer says.
 pub fn write_cells<W: Write>(out: &mut W, rows: &Rows, column: u64, bytes: &[u8]) -> io::Result<u64>
-    ensures { IfOk result (λ after. WritesCells rows.now.form rows.now.size rows.now.width column
-        after bytes.now (W.contents out.old) (W.contents out.new)) }
+    ensures written { IfOk result (λ after. WritesCells rows.now.form rows.now.size rows.now.width
+        column after bytes.now (W.contents out.old) (W.contents out.new)) }
+    ensures sized { OnOk result ((0 < rows.now.size) × (rows.now.size ≤ 8)) }
 {
     if rows.size == 0 || rows.size > 8 {
         return Err(io::Error::from(ErrorKind::InvalidData));
@@ -172,6 +175,7 @@ fn no_cell(alloc: Global, token: &[u8]) -> CellsError {
 }
 
 /// Adds the cell in this column that the input begins with.
+#[tactic(auto, using(crate::proofs::LineLemmas::extends_by, crate::proofs::LineLemmas::extends_same))]
 fn read_cell<R: BufRead>(
     alloc: Global,
     input: &mut R,
@@ -180,8 +184,9 @@ fn read_cell<R: BufRead>(
     token: &mut Vec<u8>,
     bytes: &mut Vec<u8>,
 ) -> Result<(), CellsError>
-    ensures { OnOk result (ReadsCell rows.now.form rows.now.size rows.now.width column
+    ensures cell { OnOk result (ReadsCell rows.now.form rows.now.size rows.now.width column
         (R.remaining input.old) (R.remaining input.new) bytes.old.items bytes.new.items) }
+    ensures kept { Extends bytes.old.items bytes.new.items }
 {
     token.clear();
     let ending = if rows.is_last(column) { b'\n' } else { b',' };
@@ -194,10 +199,11 @@ fn read_cell<R: BufRead>(
 }
 
 /// Adds so many cells from the column on that the input begins with: a list for each row, on a line of its own. Returns
-/// the column behind them.
+/// the column behind them. What the bytes had before stays, also if it is refused.
 ///
 /// # Errors
 /// E5 for what is no cell; fewer cells; what the reader says; out of memory.
+#[tactic(auto, using(crate::proofs::LineLemmas::extends_more))]
 pub fn read_cells<R: BufRead>(
     alloc: Global,
     input: &mut R,
@@ -209,6 +215,7 @@ pub fn read_cells<R: BufRead>(
     ensures column { IfOk result (λ after. after ≡ column_after rows.now.width column count) }
     ensures cells { OnOk result (ReadsCells rows.now.form rows.now.size rows.now.width count column
         (R.remaining input.old) (R.remaining input.new) bytes.old.items bytes.new.items) }
+    ensures kept { Extends bytes.old.items bytes.new.items }
 {
     let mut token = Vec::new(alloc);
     let mut column = column;

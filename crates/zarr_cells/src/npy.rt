@@ -1,8 +1,9 @@
 //! Numpy's format: a header that says the type and the shape, and then the cells.
-ghost use Rattle.std.specs.Prelude.{◌≡◌, ◌<◌, ◌^◌, length, bytes_eq, IfOk, OnOk};
+ghost use Rattle.std.specs.Prelude.{◌≡◌, ◌⊎◌, ◌<◌, ◌≤◌, ◌%◌, ◌^◌, length, bytes_eq, IfErr, IfOk, OnOk};
 ghost use Rattle.std.specs.Int.{w16, to_le_bytes};
 ghost use Rattle.std.specs.Io.KnownBytes.{Consumes};
-ghost use Rattle.zarr_cells.specs.Npy.{letter, order, extents, tuple, description, without_blanks, magic, header_bytes, IsHeader, ReadsHeader};
+ghost use Rattle.zarr_cells.specs.Npy.{description, extents, letter, order, padded, tuple};
+ghost use Rattle.zarr_cells.specs.Npy.{header_bytes, magic, without_blanks, IsHeader, ReadsHeader};
 
 use crate::error::CellsError;
 use crate::form::Form;
@@ -81,10 +82,9 @@ fn description(
     Ok(text)
 }
 
-/// Adds blanks, so that a header with this text is a multiple of 64 bytes.
-#[tactic(auto, using(crate::proofs::ListLemmas::blank_behind))]
+/// Adds blanks and a newline, so that a header with this text is a multiple of 64 bytes.
 fn padded(text: Vec<u8>) -> Result<Vec<u8>, AllocError>
-    ensures { IfOk result (λ made. without_blanks made.items ≡ without_blanks text.items) }
+    ensures { IfOk result (λ made. made.items ≡ padded text.items) }
 {
     let mut made = text;
     for _done in 0..63 - (made.len() % 64 + 10) % 64 {
@@ -94,17 +94,24 @@ fn padded(text: Vec<u8>) -> Result<Vec<u8>, AllocError>
     Ok(made)
 }
 
-/// Returns the header of a file of cells of this type and shape. Its length is a multiple of 64.
+/// Returns the header of a file of cells of this type and shape: what it says, blanks and one newline. Its length is a
+/// multiple of 64.
 ///
 /// # Errors
 /// Too many dimensions; out of memory.
+#[tactic(auto, using(crate::proofs::ListLemmas::padded_bytes_size, crate::proofs::ListLemmas::padded_header))]
 pub fn header(
     alloc: Global,
     form: Option<Form>,
     size: usize,
     shape: &[u64],
 ) -> Result<Vec<u8>, CellsError>
-    ensures { IfOk result (λ bytes. IsHeader (description form size shape.now) bytes.items) }
+    ensures header { IfOk result (λ bytes. IsHeader (description form size shape.now) bytes.items) }
+    ensures exact { IfOk result (λ bytes. bytes.items
+        ≡ header_bytes (padded (description form size shape.now))) }
+    ensures size { IfOk result (λ bytes. length bytes.items % 64 ≡ 0) }
+    ensures refused { IfErr result (λ e. (e ≡ CellsError.OutOfMemory)
+        ⊎ (2 ^ 16 ≤ length (padded (description form size shape.now)))) }
 {
     let text = padded(description(alloc, form, size, shape)?)?;
     let Ok(length) = u16::try_from(text.len()) else {

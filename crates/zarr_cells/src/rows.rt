@@ -1,5 +1,6 @@
 //! Regions, cut along a dimension.
-ghost use Rattle.std.specs.Prelude.{◌≡◌, ◌≤◌, ◌<◌, ◌++◌, ◌+◌, ◌-◌, ℕ, length, slice_index, slice_set, IfOk};
+ghost use Rattle.std.specs.Prelude.{◌≡◌, ◌⊎◌, ◌≤◌, ◌<◌, ◌++◌, ◌+◌, ◌-◌, ◌^◌, ℕ, length, slice_index};
+ghost use Rattle.std.specs.Prelude.{slice_set, IfErr, IfOk};
 ghost use Rattle.zarrs_subset.specs.Regions.{box_of, positions};
 ghost use Rattle.zarr_cells.specs.Rows.{AreOnes};
 
@@ -24,6 +25,9 @@ pub fn long_axis(region: &ArraySubset) -> usize
 }
 
 /// Returns the region with this start and this extent along the axis.
+///
+/// # Errors
+/// `Subset` if its end along the axis passes `u64`; out of memory.
 pub fn with_rows(
     alloc: Global,
     region: &ArraySubset,
@@ -34,6 +38,7 @@ pub fn with_rows(
     requires { axis < length (box_of region.now).start }
     ensures start { IfOk result (λ b. (box_of b).start ≡ slice_set (box_of region.now).start axis first) }
     ensures shape { IfOk result (λ b. (box_of b).shape ≡ slice_set (box_of region.now).shape axis rows) }
+    ensures refused { IfErr result (λ e. (e ≡ CellsError.OutOfMemory) ⊎ (2 ^ 64 ≤ first + rows)) }
 {
     let mut start = region.start().to_vec(alloc)?;
     start[axis] = first;
@@ -44,6 +49,9 @@ pub fn with_rows(
 
 /// Cuts the region along the axis, before which each extent is 1, after so many rows. The positions of the one part, and
 /// then those of the other, are those of the region.
+///
+/// # Errors
+/// Out of memory.
 pub fn split_rows(
     alloc: Global,
     region: &ArraySubset,
@@ -59,6 +67,7 @@ pub fn split_rows(
         ≡ slice_set (box_of region.now).shape axis rows) }
     ensures others { IfOk result (λ cut. (box_of cut.1).shape ≡ slice_set (box_of region.now).shape
         axis (slice_index (box_of region.now).shape axis - rows)) }
+    ensures refused { IfErr result (λ e. e ≡ CellsError.OutOfMemory) }
 {
     let (first, extent) = (region.start()[axis], region.shape()[axis]);
     let band = with_rows(alloc, region, axis, first, rows)?;

@@ -1,8 +1,8 @@
 //! Numbers and regions in the words of a command line.
-ghost use Rattle.std.specs.Prelude.{◌≡◌, map, IfOk, Some};
+ghost use Rattle.std.specs.Prelude.{◌≡◌, ◌⊎◌, map, Any, IfErr, IfOk, Some, None};
 ghost use Rattle.zarrs_subset.specs.Regions.{box_of};
 ghost use Rattle.zarr_cells.specs.Numbers.{number_in};
-ghost use Rattle.zarr_cells.specs.Words.{parts_between, SaysNumbers};
+ghost use Rattle.zarr_cells.specs.Words.{parts_between, RefusesRegion, SaysNumbers, SaysNoNumbers};
 
 use crate::bits::number;
 use crate::error::CellsError;
@@ -18,7 +18,9 @@ fn parts_of(alloc: Global, word: &str) -> Result<Vec<&str>, AllocError>
 
 /// Returns the number that a part says.
 fn part_number(alloc: Global, part: &str) -> Result<u64, CellsError>
-    ensures { IfOk result (λ found. number_in part.now ≡ Some found) }
+    ensures said { IfOk result (λ found. number_in part.now ≡ Some found) }
+    ensures refused { IfErr result (λ e. (e ≡ CellsError.OutOfMemory)
+        ⊎ (number_in part.now ≡ None)) }
 {
     match number(part.as_bytes()) {
         Some(number) => Ok(number),
@@ -28,9 +30,11 @@ fn part_number(alloc: Global, part: &str) -> Result<u64, CellsError>
 
 /// Returns the numbers that the parts say.
 fn part_numbers(alloc: Global, parts: &[&str]) -> Result<Vec<u64>, CellsError>
-    ensures { IfOk result (λ found.
+    ensures said { IfOk result (λ found.
         map (λ number. Some number) found.items
         ≡ map (λ part. number_in part.now) parts.now) }
+    ensures refused { IfErr result (λ e. (e ≡ CellsError.OutOfMemory)
+        ⊎ Any (λ part. number_in part.now ≡ None) parts.now) }
 {
     let mut found = Vec::new(alloc);
     for part in parts {
@@ -46,7 +50,8 @@ fn part_numbers(alloc: Global, parts: &[&str]) -> Result<Vec<u64>, CellsError>
 /// A part of it is no number below 2^64; out of memory.
 #[tactic(auto, using(crate::proofs::ListLemmas::parts_said))]
 pub fn numbers(alloc: Global, word: &str) -> Result<Vec<u64>, CellsError>
-    ensures { IfOk result (λ found. SaysNumbers word.now found.items) }
+    ensures said { IfOk result (λ found. SaysNumbers word.now found.items) }
+    ensures refused { IfErr result (λ e. (e ≡ CellsError.OutOfMemory) ⊎ SaysNoNumbers word.now) }
 {
     if word == "-" {
         return Ok(Vec::new(alloc));
@@ -62,6 +67,7 @@ pub fn numbers(alloc: Global, word: &str) -> Result<Vec<u64>, CellsError>
 pub fn region(alloc: Global, start: &str, shape: &str) -> Result<ArraySubset, CellsError>
     ensures start { IfOk result (λ region. SaysNumbers start.now (box_of region).start) }
     ensures shape { IfOk result (λ region. SaysNumbers shape.now (box_of region).shape) }
+    ensures refused { IfErr result (RefusesRegion start.now shape.now) }
 {
     let start = numbers(alloc, start)?;
     let shape = numbers(alloc, shape)?;

@@ -1,4 +1,7 @@
 //! Why the words of a command are refused.
+ghost use Rattle.std.specs.Prelude.{◌≡◌};
+ghost use Rattle.zarr_words.specs.declared.error.WordsError.TheVariants.{OutOfMemory};
+
 use std::alloc::AllocError;
 use std::fmt;
 
@@ -21,6 +24,8 @@ impl fmt::Display for WordsError {
 }
 
 impl From<AllocError> for WordsError {
+    ghost from_gives = { λ _ e. e ≡ OutOfMemory };
+
     fn from(_error: AllocError) -> WordsError {
         WordsError::OutOfMemory
     }

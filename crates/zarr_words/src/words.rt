@@ -1,4 +1,8 @@
 //! The words of a command line, by their names.
+ghost use Rattle.std.specs.Prelude.{◌≡◌, [], is_some, unwrap_or};
+ghost use Rattle.std.specs.Option.{option_copied};
+ghost use Rattle.zarr_words.specs.Named.{value_given};
+
 use crate::error::WordsError;
 use crate::usages::{OptionKind, Usage};
 use std::alloc::{AllocError, Global};
@@ -124,7 +128,9 @@ impl<'a> Given<'a> {
     }
 
     /// Returns the value of this name, if it was given.
-    pub fn get(&self, name: &str) -> Option<&'a str> {
+    pub fn get(&self, name: &str) -> Option<&'a str>
+        ensures { option_copied result ≡ value_given self.now name.now }
+    {
         for (known, value) in &self.values {
             if *known == name {
                 return Some(*value);
@@ -134,12 +140,16 @@ impl<'a> Given<'a> {
     }
 
     /// Returns whether the word of this name was given.
-    pub fn has(&self, name: &str) -> bool {
+    pub fn has(&self, name: &str) -> bool
+        ensures { result ≡ is_some (value_given self.now name.now) }
+    {
         self.get(name).is_some()
     }
 
     /// Returns the value that was given, or an empty one.
-    pub fn value(&self, name: &str) -> &'a str {
+    pub fn value(&self, name: &str) -> &'a str
+        ensures { result.now ≡ unwrap_or (value_given self.now name.now) [] }
+    {
         self.get(name).unwrap_or("")
     }
 }

@@ -1,18 +1,19 @@
 -- Reads and writes of the parts of one chunk of an array.
-use Rattle.std.specs.Prelude.{◌≡◌, ℕ, List, None, true, Result, OnOk, IfOk, IfErr}
+use Rattle.std.specs.Prelude.{◌≡◌, ℕ, List, None, true, Result, OnOk, IfOk, IfErr, IsErr}
 use Rattle.std.specs.Borrow.{Fml, MutBor, RattleType, RestsIfErr}
 use Rattle.zarrs_storage.specs.Store.{StoreState}
 use Rattle.zarrs_subset.specs.Regions.{Box}
-use Rattle.zarrs_chunk_grid.specs.Grids.{has_box}
+use Rattle.zarrs_chunk_grid.specs.Grids.{box_at, has_box}
 use Rattle.zarrs_data_type_bytes.specs.declared.array_bytes.ArrayBytes.{ArrayBytes}
+use Rattle.zarrs_data_type.specs.ArrayData.{data_of}
 use Rattle.zarrs_engine_calls.specs.ArgumentRefusals.{chunk_refusal, part_refusal}
+use Rattle.zarrs_engine_calls.specs.ChunkBoxes.{is_whole_of}
 use Rattle.zarrs_engine_calls.specs.Reach.{MayReadPart}
 use Rattle.zarrs_engine_calls.specs.Layout.{Layout, ArrayState}
 use Rattle.zarrs_engine_calls.specs.Refusals.{RefusesBy, refusal_of}
 use Rattle.zarrs_engine_calls.specs.Step.{RetrievesPart, RefusesRetrievePart}
 use Rattle.zarrs_engine_calls.specs.declared.error.ArrayError.{ArrayError}
 use Rattle.zarrs_engine.specs.Engine.{layout_of, state_of, store_of}
-use Rattle.zarrs_engine.specs.Outcomes.{Reads}
 use Rattle.zarrs_engine.specs.PartialDecoders.{engine_of, indices_of, region_of_part}
 use Rattle.zarrs.specs.Arrays.{layout_of_array, state_of_array}
 use Rattle.zarrs.specs.declared.array.Array.{Array}
@@ -61,13 +62,13 @@ module _ {S : Type 0} where
     pub accepted : OnOk result (has_box (layout_of_array array).grid index ≡ true)
     pub refused : IfErr result (λ e. RefusesBy (chunk_refusal (layout_of_array array) index) (refusal_of e))
 
-  -- the cells of a part of its chunk are returned, or the read is refused
-  abbrev pub DecodesPart : (S → StoreState) → Box → ArrayPartialDecoder S → Result ArrayBytes ArrayError → Type 0
-  DecodesPart state part decoder =
-      let layout = layout_of_decoder decoder in
-      let index = indices_of_decoder decoder in
-      let store = store_of_decoder state decoder in
-      Reads (λ held. RetrievesPart layout index part held store) (λ r. RefusesRetrievePart layout index part r store)
+  -- the cells of a part of its chunk are returned, or the read is refused; if the part is the whole chunk, it is where the store
+  -- refuses the key
+  pub record DecodesPart (state : S → StoreState) (part : Box) (decoder : ArrayPartialDecoder S) (result : Result ArrayBytes ArrayError) : Type 0 where
+    pub cells : IfOk result (λ made. RetrievesPart (layout_of_decoder decoder) (indices_of_decoder decoder) part (data_of made) (store_of_decoder state decoder))
+    pub refused : IfErr result (λ e. RefusesRetrievePart (layout_of_decoder decoder) (indices_of_decoder decoder) part (refusal_of e) (store_of_decoder state decoder))
+    pub refusing : is_whole_of (box_at (layout_of_decoder decoder).grid (indices_of_decoder decoder)).shape part ≡ true
+        → (store_of_decoder state decoder).refuses ((layout_of_decoder decoder).key (indices_of_decoder decoder)) ≡ true → IsErr result
 
 -- once the borrow ends, the array is what the encoder left, and if none was made what it had been
 abbrev pub RestsUnlessEncoded : (S : RattleType) → MutBor (Array S.Denot) → Result (ArrayPartialEncoder S.Denot) ArrayError → Fml

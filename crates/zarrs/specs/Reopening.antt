@@ -37,9 +37,12 @@ module _ {S : Type 0} (state : S → StoreState) where
   abbrev pub RefusesReopening : MetadataOptionsData → List ℕ → MetadataData → CreateRefusal → StoreState → Type 0
   RefusesReopening o path m r old = RefusesToStore o path m r old ⊎ DoesNotOpen o path m r old
 
-  -- The array was stored, and opened again with default options, or not. If what is written for the metadata reads as it, the
-  -- array that opened has the metadata that was shown up to its normal form, and lies in its store in the same way.
+  -- The array was stored, and opened again with default options, or not. What opened is what its store then holds. If what is
+  -- written for the metadata reads as it, the array that opened has the metadata that was shown up to its normal form, and lies
+  -- in its store in the same way.
   pub record ReopensArray (array : Array S) (result : Result (Array S) ArrayCreateError) : Type 0 where
+    pub opens : (m : MetadataData) → shown (metadata_options_of_array array) (metadata_of_array array) ≡ Ok m
+        → IfOk result (λ a. opened (version_of m) (store_of_array state a) (path_of_array array) ≡ Ok (metadata_of_array a))
     pub metadata : (m : MetadataData) → shown (metadata_options_of_array array) (metadata_of_array array) ≡ Ok m → IsReadAgain m
         → IfOk result (λ a. metadata_of_array a ≡ normal_metadata m)
     pub path : IfOk result (λ a. path_of_array a ≡ path_of_array array)

@@ -267,9 +267,10 @@ impl<TStorage: ReadableStorageTraits + Drop> Array<TStorage> {
     /// `.zattrs` if that is present.
     ///
     /// # Errors
-    /// In this order: E11 for a path that is no path of a node; E23 if the store refuses a key that is asked, and for a
-    /// value there that is no such document; E24 if the metadata is absent; E12 for an additional field of a V3 document
-    /// that must be understood. Then as `new_with_metadata`. E26 may come at any time. The store is dropped then.
+    /// In this order: E11 for a path that is no path of a node; E23 if the store refuses a key that is asked, and, as an
+    /// `InvalidMetadata` of this key, for a value there that is no such document; E24 if the metadata is absent; E12 for
+    /// an additional field of a V3 document that must be understood. Then as `new_with_metadata`. E26 may come at any
+    /// time. The store is dropped then.
     pub fn open_opt(
         alloc: Global,
         storage: TStorage,

@@ -63,8 +63,9 @@ fn stored<S: WritableStorageTraits + Drop>(
 }
 
 /// Stores the metadata of the array, takes the store out and opens the array there again, by the version that was
-/// written. If what is written for the metadata reads as it, the array that opens has the metadata that was shown up to
-/// its normal form, and lies in its store in the same way. It has the default options.
+/// written: what opens is what the store then holds. If what is written for the metadata reads as it, the array that
+/// opens has the metadata that was shown up to its normal form, and lies in its store in the same way. It has the
+/// default options.
 ///
 /// # Errors
 /// E23 if the store refuses, and E26; for metadata that is not read again also E23 and E12. The store is dropped then.

@@ -1,10 +1,10 @@
 -- Parts of shards of a cell type that are read: what stands for their subchunks, what is read of them, and why it is not.
-use Rattle.std.specs.Prelude.{◌≡◌, ◌*◌, ◌<◌, ◌^◌, List, Option, ℕ}
+use Rattle.std.specs.Prelude.{◌≡◌, ◌*◌, ◌<◌, ◌^◌, List, Option, None, ℕ, IfSome, IsSome, slice_index_or}
 use Rattle.zarrs_codec_chain.specs.Chain.{ChainMeaning, is_too_large}
 use Rattle.zarrs_codec_chain.specs.PartRefusals.{RefusesPartDecoding}
 use Rattle.zarrs_codec_chain.specs.Refusals.{IsTooLargeToDecode}
 use Rattle.zarrs_codec_chain.specs.ShardParts.{HasAllParts, ReadsSubchunk, RefusesStep}
-use Rattle.zarrs_codec_chain.specs.ShardReads.{ShardRead, parts_of}
+use Rattle.zarrs_codec_chain.specs.ShardReads.{IsAt, ShardRead, parts_of}
 use Rattle.zarrs_codec_chain.specs.declared.error.PartError.{PartError}
 use Rattle.zarrs_data_type.specs.ArrayData.{ArrayData}
 use Rattle.zarrs_data_type.specs.Cell.{Cell}
@@ -37,6 +37,14 @@ shard_decoded codec t r = (shard_as codec r).decoded (kind_of t) (filling t) r.s
 -- what the bytes of one of its subchunks decode to
 abbrev pub inner_decoded : ShardingCodec → CellType → ShardRead → List ℕ → Option (List Cell)
 inner_decoded codec t r = (chain_meaning (inner_chain_of codec)).decoded (kind_of t) (filling t) r.sub
+
+-- the subchunk with these indices, if there is one, is absent or decodes
+abbrev pub DecodesOne : ShardingCodec → CellType → ShardRead → (index : List ℕ) → Type 0
+DecodesOne codec t r index = (n : ℕ) → IsAt r index n → IfSome (slice_index_or (parts_of r) n None) (λ b. IsSome (inner_decoded codec t r b))
+
+-- and so is each
+abbrev pub DecodesEach : ShardingCodec → CellType → ShardRead → Type 0
+DecodesEach codec t r = (index : List ℕ) → DecodesOne codec t r index
 
 -- why the part is not read
 abbrev pub RefusesShard : ShardingCodec → CellType → ShardRead → PartError → Type 0

@@ -1,5 +1,5 @@
 //! Parts of chunks, of ranges of their bytes.
-ghost use Rattle.std.specs.Prelude.{◌*◌, ◌<◌, ◌^◌, IfOk, IfErr, IfNone, IfSome, IsSome};
+ghost use Rattle.std.specs.Prelude.{◌≡◌, ◌*◌, ◌<◌, ◌^◌, IfOk, IfErr, IfNone, IfSome, IsSome};
 ghost use Rattle.zarrs_subset.specs.Boxes.{position_count};
 ghost use Rattle.zarrs_subset.specs.Regions.{LiesInShape, box_of};
 ghost use Rattle.zarrs_data_type.specs.CellTypes.{chunk_kind, kind_of, shape_of};
@@ -13,8 +13,9 @@ ghost use Rattle.zarrs_codec_chain.specs.Places.{all_places};
 ghost use Rattle.zarrs_codec_chain.specs.ShardParts.{MeetsPart};
 ghost use Rattle.zarrs_codec_chain.specs.Stored.{MayReadOf, bytes_of, refuses_of};
 ghost use Rattle.zarrs_codec.specs.Chains.{chain_meaning, inner_chain_of, sharding_meaning};
-ghost use Rattle.zarrs_codec.specs.ShardChunks.{DecodesWhole, HasNoPieceOf, HasParts, HasPieceOf};
-ghost use Rattle.zarrs_codec.specs.ShardChunks.{IsCounted, ReadsOne, RefusesReads};
+ghost use Rattle.zarrs_codec.specs.ShardChunks.{DecodesEach, DecodesOne, DecodesWhole, HasParts};
+ghost use Rattle.zarrs_codec.specs.ShardChunks.{HasNoPieceOf, HasPieceOf, IsCounted, ReadsOne};
+ghost use Rattle.zarrs_codec.specs.ShardChunks.{RefusesReads, RefusesShard, shard_decoded};
 
 use crate::chain::CodecChain;
 use crate::codec::ArrayToBytesCodec;
@@ -43,6 +44,8 @@ impl CodecChain {
             (chunk_kind chunk.now) (shape_of chunk.now) (box_of part.now) (bytes_of stored.now)) }
         ensures cells { IfOk result (λ made. HoldsPart (chain_meaning self.now) chunk.now
             (box_of part.now) (bytes_of stored.now) (data_of made)) }
+        ensures whole { (box_of part.now).shape ≡ shape_of chunk.now → IfOk result (λ _. IsSome
+            (decoded_of (chain_meaning self.now) chunk.now (bytes_of stored.now))) }
         ensures refused { IfErr result (RefusesToDecodePart (chain_meaning self.now) chunk.now
             (box_of part.now) (bytes_of stored.now) (refuses_of stored.now)) }
     {
@@ -115,18 +118,46 @@ impl ShardingCodec {
             (chunk_kind chunk.now) (shape_of chunk.now) (box_of part.now) (bytes_of stored.now)) }
         ensures cells { IfOk result (λ made. HoldsPart (sharding_meaning self.now) chunk.now
             (box_of part.now) (bytes_of stored.now) (data_of made)) }
+        ensures whole { (box_of part.now).shape ≡ shape_of chunk.now → IfOk result (λ _. IsSome
+            (decoded_of (sharding_meaning self.now) chunk.now (bytes_of stored.now))) }
         ensures refused { IfErr result (RefusesToDecodePart (sharding_meaning self.now) chunk.now
             (box_of part.now) (bytes_of stored.now) (refuses_of stored.now)) }
     {
         let sub = self.extents(alloc)?;
         let at_start = self.index_location().is_at_start();
-        match ShardPart::open(alloc, stored, part, chunk.shape, &sub, at_start)? {
-            Some(read) => self.read_part(alloc, &read, chunk.cell_type),
-            None => Err(PartError::Codec(CodecError::DoesNotFit(Misfit::Bytes))),
+        let Some(read) = ShardPart::open(alloc, stored, part, chunk.shape, &sub, at_start)? else {
+            return Err(PartError::Codec(CodecError::DoesNotFit(Misfit::Bytes)));
+        };
+        if part.shape() == chunk.shape {
+            return self.read_all(alloc, &read, chunk.cell_type);
         }
+        self.read_part(alloc, &read, chunk.cell_type)
     }
 
-    /// The same, of a shard whose index was read.
+    /// The cells of a whole shard whose index was read. Its bytes have to decode.
+    #[cycle(partial_decode)]
+    fn read_all<B: ByteSource>(
+        &self,
+        alloc: Global,
+        read: &ShardPart<'_, '_, B>,
+        cell_type: &CellType,
+    ) -> Result<ArrayBytes<'static>, PartError>
+        requires size { IsCounted cell_type.now (read_of read.now) }
+        requires whole { (read_of read.now).part.shape ≡ (read_of read.now).shape }
+        ensures all { IfOk result (λ made. HasParts self.now cell_type.now (read_of read.now)
+            (data_of made)) }
+        ensures decodes { IfOk result (λ _. IsSome (shard_decoded self.now cell_type.now
+            (read_of read.now))) }
+        ensures refused { IfErr result (RefusesShard self.now cell_type.now (read_of read.now)) }
+    {
+        let shape = read.subchunk_shape();
+        if !self.inner.fits_chunk(alloc, &cell_type.data_type, shape)? {
+            return Err(PartError::Codec(CodecError::DoesNotFit(Misfit::TypeOrShape)));
+        }
+        self.read_part(alloc, read, cell_type)
+    }
+
+    /// The cells of a part of a shard whose index was read. If the part is the whole shard, each subchunk has to decode.
     #[cycle(partial_decode)]
     fn read_part<B: ByteSource>(
         &self,
@@ -137,6 +168,8 @@ impl ShardingCodec {
         requires { IsCounted cell_type.now (read_of read.now) }
         ensures all { IfOk result (λ made. HasParts self.now cell_type.now (read_of read.now)
             (data_of made)) }
+        ensures whole { (read_of read.now).part.shape ≡ (read_of read.now).shape → IfOk result
+            (λ _. DecodesEach self.now cell_type.now (read_of read.now)) }
         ensures refused { IfErr result (RefusesReads self.now cell_type.now (read_of read.now)) }
     {
         let met = read.met(alloc)?;
@@ -166,6 +199,8 @@ impl ShardingCodec {
         requires met { MeetsPart (read_of read.now).sub (read_of read.now).part (box_of met.now) }
         ensures all { IfOk result (λ made. HasParts self.now cell_type.now (read_of read.now)
             (data_of made)) }
+        ensures whole { (read_of read.now).part.shape ≡ (read_of read.now).shape → IfOk result
+            (λ _. DecodesEach self.now cell_type.now (read_of read.now)) }
         ensures refused { IfErr result (RefusesReads self.now cell_type.now (read_of read.now)) }
     {
         let Ok(count) = read.part.num_elements() else {
@@ -205,6 +240,8 @@ impl ShardingCodec {
             (position_count (read_of read.now).part.shape) }
         ensures read { IfOk result (λ made. ReadsOne self.now cell_type.now (read_of read.now)
             indices.now (region_data held) (region_data made)) }
+        ensures whole { (read_of read.now).part.shape ≡ (read_of read.now).shape → IfOk result
+            (λ _. DecodesOne self.now cell_type.now (read_of read.now) indices.now) }
         ensures refused { IfErr result (RefusesReads self.now cell_type.now (read_of read.now)) }
     {
         let Some(piece) = self.decode_piece(alloc, read, cell_type, indices)? else {
@@ -231,6 +268,8 @@ impl ShardingCodec {
             (read_of read.now) indices.now)) }
         ensures piece { IfOk result (λ made. IfSome made (λ piece. HasPieceOf self.now cell_type.now
             (read_of read.now) indices.now (box_of piece.shared) (data_of piece.cells))) }
+        ensures whole { (read_of read.now).part.shape ≡ (read_of read.now).shape → IfOk result
+            (λ _. DecodesOne self.now cell_type.now (read_of read.now) indices.now) }
         ensures refused { IfErr result (RefusesReads self.now cell_type.now (read_of read.now)) }
     {
         let Some(number) = read.number(indices) else {
@@ -269,6 +308,9 @@ impl ShardingCodec {
             (chunk_kind chunk.now) (shape_of chunk.now) (box_of part.now) (bytes_of stored.now)) }
         ensures cells { IfOk result (λ made. HoldsPart (chain_meaning (inner_chain_of self.now))
             chunk.now (box_of part.now) (bytes_of stored.now) (data_of made)) }
+        ensures whole { (box_of part.now).shape ≡ shape_of chunk.now → IfOk result (λ _. IsSome
+            (decoded_of (chain_meaning (inner_chain_of self.now)) chunk.now
+            (bytes_of stored.now))) }
         ensures refused { IfErr result (RefusesToDecodePart
             (chain_meaning (inner_chain_of self.now)) chunk.now (box_of part.now)
             (bytes_of stored.now) (refuses_of stored.now)) }

@@ -33,6 +33,7 @@ use Rattle.zarrs_subset.proofs.Inside.{holds_inside}
 use Rattle.zarrs_codec_chain.specs.Parts.{DecodesInto}
 use Rattle.zarrs_codec_chain.specs.ShardInto.{DecodesPartInto}
 use Rattle.zarrs_codec_chain.specs.ShardParts.{DecodesAs, IsCellOf}
+use Rattle.zarrs_codec_chain.proofs.AllDecode.{all_there, whole_of}
 use Rattle.zarrs_codec_chain.proofs.Stays.{cell_stays}
 use Rattle.zarrs_codec_chain.proofs.SubchunkSteps.{cell_of_whole, length-offset_from, own_holds, own_place, part_at}
 use Rattle.zarrs_data_type_bytes.proofs.FixedSizes.{some_is}
@@ -217,49 +218,12 @@ module _ (parent : List ℕ) (region : Box) (sub : List ℕ) (cut : is_cut_by re
       from_part None own held d = (replicate (position_count sub) fill, refl)
       from_part (Some b) own held d = (d.whole, decodes_as b ∙ d.decoded_is)
 
-      all_there : (list : List (Option (List ℕ))) → ((j : ℕ) → j < length list → (cs : List Cell) × (cells_of_part m fill sub (get_or list j None) ≡ Some cs))
-          → (all : List (List Cell)) × (all_present (map (cells_of_part m fill sub) list) ≡ Some all)
-      all_there [] each = ([], refl)
-      all_there (o ∷ list) each =
-          let first = each 0 (omega arith) in
-          let rest = all_there list (λ j lt. each (suc j) (omega arith)) in
-          (first.0 ∷ rest.0, all_present-cons (cells_of_part m fill sub o) (map (cells_of_part m fill sub) list) first.0 rest.0 first.1 rest.1)
-
-      filled : (n : ℕ) → are_values k (replicate n fill) ≡ true
-      filled zero = refl
-      filled (suc n) = and_from (is_value k fill) (are_values k (replicate n fill)) fill_value (filled n)
-
-      part_values : (o : Option (List ℕ)) (cs : List Cell) → cells_of_part m fill sub o ≡ Some cs → (are_values k cs ≡ true) × (length cs ≡ position_count sub)
-      part_values None cs is = (ap (are_values k) (sym (some_is is)) ∙ filled (position_count sub), ap length (sym (some_is is)) ∙ length-replicate (position_count sub) fill)
-      part_values (Some b) cs is = let decodes = sym (decodes_as b) ∙ is in (valued b cs decodes, counted b cs decodes)
-
-      -- the chunk decodes
-      whole_of : (all : List (List Cell)) → all_present (map (cells_of_part m fill sub) parts) ≡ Some all → sharded_decoded m at_start k fill s sub encoded ≡ Some (assembled s sub all)
-      whole_of all are =
-          let F : List ℕ → Cell = λ x. get_or (get_or all (place grid (quotients x sub)) []) (place sub (remainders x sub)) none in
-          let values : are_values k (assembled s sub all) ≡ true =
-          list_all-from_AllPass (λ c. is_value k c) (assembled s sub all)
-          (λ i d lt.
-          let below : i < position_count s = omega (arith, length-made_of F s) in
-          let x = unravel s i in
-          let inside = unravel_in s i below in
-          let q = position_divided s sub x cut inside in
-          let j = place grid (quotients x sub) in
-          let j_lt : j < length parts = omega (arith, place_below grid (quotients x sub) q.in_grid, length-shard_parts at_start (subchunk_count s sub) encoded parts parts_are) in
-          let v = part_values (get_or parts j None) (get_or all j []) (part_at m fill sub parts all j are j_lt) in
-          ap (is_value k) (get_or-made_of F s i d below)
-          ∙ AllPass-from_list_all (λ c. is_value k c) (get_or all j []) v.0 (place sub (remainders x sub)) none (omega (arith, v.1, place_below sub (remainders x sub) q.in_part))) in
-          given_if-true (sharded_fits m s sub) (shard_parts at_start (subchunk_count s sub) encoded >>= cells_of_parts m k fill s sub) (and_from (is_cut_by s sub) m.fits cut fits)
-          ∙ ap (λ o. o >>= cells_of_parts m k fill s sub) parts_are
-          ∙ ap (λ o. o >>= λ subchunks. values_only k (assembled s sub subchunks)) are
-          ∙ ap (λ b. cond b (Some (assembled s sub all)) None) values
-
       pub all_into : (held : ArrayData) → ((j : ℕ) → j < subchunk_count s sub → Has j held)
           → DecodesInto k (box_at_origin parent) region (sharded_decoded m at_start k fill s sub encoded) held
       all_into held each =
           let parts_len = length-shard_parts at_start (subchunk_count s sub) encoded parts parts_are in
-          let all = all_there parts (λ j lt. from_part (slice_index_or parts j None) (own_box region sub j) held (each j (omega (arith, parts_len)))) in
-          let is = whole_of all.0 all.1 in
+          let all = all_there fill sub m parts (λ j lt. from_part (slice_index_or parts j None) (own_box region sub j) held (each j (omega (arith, parts_len)))) in
+          let is = whole_of k decoded fill s sub cut parts m at_start encoded fits decodes_as parts_are counted valued fill_value all.0 all.1 in
           record {
             whole = assembled s sub all.0;
             decoded_is = is;

@@ -13,6 +13,7 @@ pub mod SubchunkPieces
 pub mod SubchunkSteps
 pub mod SubchunkWalks
 pub mod Turns
+pub mod AllDecode
 pub mod AllOfIt
 pub mod ShardOpening
 pub mod OpenShards

@@ -24,7 +24,7 @@ use Rattle.zarrs_data_type.specs.Cell.{Cell}
 use Rattle.zarrs_data_type.specs.Kind.{Kind}
 use Rattle.zarrs_codec_chain.specs.Places.{boxes_meet, is_index_place, is_range_place}
 use Rattle.zarrs_codec_chain.specs.ShardParts.{HasSubchunkParts, ReadsSubchunk}
-use Rattle.zarrs_codec_chain.specs.ShardReads.{HasNone, IsAt, IsOpen, IsShare, ShardRead, box_at, count_of, entry_of, part_places, parts_of}
+use Rattle.zarrs_codec_chain.specs.ShardReads.{HasNoSubchunk, HasNone, IsAt, IsOpen, IsShare, ShardRead, box_at, count_of, entry_of, part_places, parts_of}
 use Rattle.zarrs_codec_chain.proofs.PartBoxes.{part_fits, within_shape}
 use Rattle.zarrs_codec_chain.proofs.SubchunkPieces.{any_at, meets, named_place, piece_of, shared_inside, subset_is}
 use Rattle.zarrs_codec_chain.proofs.SubchunkSteps.{own_holds, skip_more}
@@ -94,12 +94,10 @@ module _ (r : ShardRead) (is : IsOpen r) where
   in_shape p holds = within_shape r.part.start r.part.shape r.shape p (part_fits r.part r.shape is.long is.lies) holds
 
   -- indices that no subchunk has
-  pub none_unfound : (i : List ℕ) → (InShape (quotients r.shape r.sub) i → 2 ^ 64 ≤ place (quotients r.shape r.sub) i) → count_of r < 2 ^ 64 → HasNone r i
-  none_unfound i past few p holds same =
+  pub none_unfound : (i : List ℕ) → HasNoSubchunk r i → HasNone r i
+  none_unfound i none p holds same =
       let inside = subst (InShape (quotients r.shape r.sub)) same (position_divided r.shape r.sub p is.cut (in_shape p holds)).in_grid in
-      let below = place_below (quotients r.shape r.sub) i inside in
-      let large = past inside in
-      omega arith
+      none (place (quotients r.shape r.sub) i) (record { in_grid = inside; at_n = refl; below = place_below (quotients r.shape r.sub) i inside })
 
   -- a subchunk that the part does not meet
   pub none_empty : (i : List ℕ) (n : ℕ) (shared : Box) (j : ℕ) → IsAt r i n → IsLong shared → j < length shared.shape → slice_index shared.shape j ≡ 0

@@ -4,8 +4,9 @@ use Rattle.std.specs.Prelude.{slice_index, slice_index_or, slice_range, nat_le, 
 use Rattle.std.specs.List.{flat_map, list_any, range_with_len}
 use Rattle.std.specs.Int.{w64, from_le_bytes}
 use Rattle.std.proofs.Math.Seq.{get_or-append_seam}
-use Rattle.std.proofs.Math.Nat.{div-lt_iff_lt-mul, div-mul-le_self}
+use Rattle.std.proofs.Math.Nat.{add-mul, div-eq_of_lt-le, div-lt_iff_lt-mul, div-mul-le_self}
 use Rattle.std.proofs.lemmas.Bool.{and_from, cases_lt, le-leb, lt-ltb}
+use Rattle.std.proofs.lemmas.Grind.{same_number_lists}
 use Rattle.std.proofs.lemmas.List.{drop-drop, drop-take, get_or-map, get_or_append_left, length-append, length-drop, length-take-le, take-take}
 use Rattle.std.proofs.lemmas.List.FromFn.{get_or-map-range_with_len, get_or-range_with_len, length-range_with_len}
 use Rattle.zarrs_codec_shard.specs.declared.shard_index.SubchunkRange.{SubchunkRange}
@@ -15,17 +16,17 @@ use Rattle.zarrs_codec_shard.proofs.ShardBytes.{entry_len, entry_offset, length-
 use Rattle.zarrs_codec_shard.specs.Subchunks.{corner, is_cut_by, quotients, subchunk_box, subchunk_count}
 use Rattle.zarrs_codec_shard.proofs.Grids.{corner_long, cut_at, cut_len}
 use Rattle.zarrs_codec_shard.proofs.SubchunkBoxes.{long_corner}
-use Rattle.zarrs_subset.specs.Boxes.{position_count, InShape, place, unravel}
+use Rattle.zarrs_subset.specs.Boxes.{position_count, InShape, place, unravel, zip_with}
 use Rattle.zarrs_subset.specs.Pieces.{piece_at}
 use Rattle.zarrs_subset.specs.Regions.{Box, IsLong, LiesInShape, box_from, overlap_of, seen_from, LiesInBox}
 use Rattle.zarrs_subset.proofs.Bytes.{along_holds, holds_along}
-use Rattle.zarrs_subset.proofs.Counts.{count_some}
+use Rattle.zarrs_subset.proofs.Counts.{count_some, some_extent}
 use Rattle.zarrs_subset.proofs.Overlaps.{AllSome, length-overlap_extents, length-zip_with}
 use Rattle.zarrs_subset.proofs.Parts.{overlap_extents-at, zip_with-at}
 use Rattle.zarrs_subset.proofs.Positions.{unravel-place}
 use Rattle.zarrs_data_type.specs.Kind.{Kind}
 use Rattle.zarrs_subset.proofs.Inside.{count_inside}
-use Rattle.zarrs_codec_chain.specs.ShardParts.{MeetsPart}
+use Rattle.zarrs_codec_chain.specs.ShardParts.{HasOnlyMet, MeetsPart}
 use Rattle.zarrs_codec_chain.specs.Places.{boxes_meet, is_index_place, is_range_place, shard_places}
 
 -- ---- the boxes
@@ -158,6 +159,7 @@ pub record MeetsAlong (s x c first count : ℕ) : Type 0 where
   pub first_is : first ≡ s / c
   pub fits : first + count < 2 ^ 64
   pub met : (i : ℕ) → i < s + x → i / c < first + count
+  pub begins : (i : ℕ) → first ≤ i → i < first + count → i * c < s + x
 
 pub meets_part : (s sub start extents : List ℕ) (part : Box) → is_cut_by s sub ≡ true → IsLong part → LiesInShape part s → length start ≡ length sub → length extents ≡ length sub
     → ((k : ℕ) → k < length sub → MeetsAlong (slice_index part.start k) (slice_index part.shape k) (slice_index sub k) (slice_index start k) (slice_index extents k))
@@ -184,6 +186,46 @@ meets_part s sub start extents part cut long lies start_len extents_len each p h
           let high = along.met (slice_index p k) (at.below k (omega (arith, lies.same_length))) in
           omega (arith, here);
     })
+
+-- the first place of the part in one of them
+pub first_met : (s x c first count i p : ℕ) → 0 < c → 0 < x → MeetsAlong s x c first count → first ≤ i → i < first + count → p ≡ max s (i * c)
+    → (s ≤ p) × (p < s + x) × (p / c ≡ i)
+first_met s x c first count i p some full along from lt p_is =
+    let begins : i * c < s + x = along.begins i from lt in
+    let first_is : first ≡ s / c = along.first_is in
+    let before : s < (i + 1) * c = (div-lt_iff_lt-mul {k = c} {x = s} {y = i + 1} some).0 (omega arith) in
+    let next : (i + 1) * c ≡ i * c + c = suc_mul i c in
+    let low : i * c ≤ p = omega arith in
+    let high : p < (i + 1) * c = omega arith in
+    (omega arith, omega arith, div-eq_of_lt-le c low high)
+  where
+    suc_mul : (i c : ℕ) → (i + 1) * c ≡ i * c + c
+    suc_mul i c = omega (arith, add-mul i 1 c)
+
+-- each of them is the one of a position of the part, if the part has one
+pub only_met : (s sub start extents : List ℕ) (part : Box) → is_cut_by s sub ≡ true → IsLong part → LiesInShape part s → length start ≡ length sub → length extents ≡ length sub
+    → ((k : ℕ) → k < length sub → MeetsAlong (slice_index part.start k) (slice_index part.shape k) (slice_index sub k) (slice_index start k) (slice_index extents k))
+    → HasOnlyMet sub part (box_from start extents)
+only_met s sub start extents part cut long lies start_len extents_len each some index holds =
+    let at = holds_along (box_from start extents) index (start_len ∙ sym extents_len) holds in
+    let sub_len = (cut_len s sub cut).0 in
+    let index_len : length sub ≡ length index = sym start_len ∙ sym at.same_length in
+    let C = corner sub index in
+    let C_len = length-zip_with (λ c i. i * c) sub index index_len in
+    let part_len : length part.start ≡ length sub = lies.same_length ∙ sym sub_len in
+    let p = zip_with (λ a b. max a b) part.start C in
+    let p_len = length-zip_with (λ a b. max a b) part.start C (part_len ∙ sym C_len) in
+    let here : (k : ℕ) → k < length sub → (slice_index part.start k ≤ slice_index p k) × (slice_index p k < slice_index part.start k + slice_index part.shape k) × (slice_index p k / slice_index sub k ≡ slice_index index k) =
+    λ k lt.
+    first_met (slice_index part.start k) (slice_index part.shape k) (slice_index sub k) (slice_index start k) (slice_index extents k) (slice_index index k) (slice_index p k)
+    (cut_at s sub k cut (omega arith)).1 (some_extent part.shape k 0 (omega (arith, long)) some) (each k lt) (at.from k (omega arith)) (at.below k (omega arith))
+    (zip_with-at (λ a b. max a b) part.start C k (omega arith) (omega arith) ∙ ap (max (slice_index part.start k)) (zip_with-at (λ c i. i * c) sub index k lt (omega arith))) in
+    let wide = length-zip_with (λ n c. n / c) p sub (p_len ∙ part_len) in (
+      p,
+      along_holds part p long (record { same_length = p_len; from = λ k lt. (here k (omega arith)).0; below = λ k lt. (here k (omega arith)).1 }),
+      same_number_lists (quotients p sub) index (wide ∙ p_len ∙ part_len ∙ index_len)
+          (λ k lt. zip_with-at (λ n c. n / c) p sub k (omega arith) (omega arith) ∙ (here k (omega arith)).2),
+    )
 
 -- one dimension more
 pub along_more : (starts extents ps px sub : List ℕ) (n first count : ℕ) → length starts ≡ n → length extents ≡ n
@@ -223,5 +265,11 @@ met_more ps px sub starts extents new_starts new_extents n first count met start
 }
 
 -- along one dimension
-pub along : (s x c first end count : ℕ) → first ≡ s / c → end ≡ s + x → first + count < 2 ^ 64 → ((i : ℕ) → i < end → i / c < first + count) → MeetsAlong s x c first count
-along s x c first end count first_is end_is fits met = record { first_is = first_is; fits = fits; met = λ i lt. met i (omega arith) }
+pub along : (s x c first end count : ℕ) → first ≡ s / c → end ≡ s + x → first + count < 2 ^ 64 → ((i : ℕ) → i < end → i / c < first + count)
+    → ((i : ℕ) → first ≤ i → i < first + count → i * c < end) → MeetsAlong s x c first count
+along s x c first end count first_is end_is fits met begins = record {
+  first_is = first_is;
+  fits = fits;
+  met = λ i lt. met i (omega arith);
+  begins = λ i from lt. let here : i * c < end = begins i from lt in omega arith;
+}

@@ -47,11 +47,11 @@ use Rattle.zarrs_data_type_bytes.proofs.FixedSizes.{some_is}
 
 -- ---- index lists
 
-same_index : (i : List ℕ) → pointwise nat_eq i i ≡ true
+pub same_index : (i : List ℕ) → pointwise nat_eq i i ≡ true
 same_index [] = refl
 same_index (x ∷ i) = and_from (nat_eq x x) (pointwise nat_eq i i) (eq-eqb x x refl) (same_index i)
 
-among_more : (done : List (List ℕ)) (i q : List ℕ) → is_among (done ++ i ∷ []) q ≡ (is_among done q || pointwise nat_eq i q)
+pub among_more : (done : List (List ℕ)) (i q : List ℕ) → is_among (done ++ i ∷ []) q ≡ (is_among done q || pointwise nat_eq i q)
 among_more [] i q = or_false (pointwise nat_eq i q)
   where
     or_false : (b : Bool) → (b || false) ≡ b

@@ -79,6 +79,11 @@ pub record HasAllParts (k : Kind) (decoded : List ℕ → Option (List Cell)) (f
 abbrev pub MeetsPart : (sub : List ℕ) → (part met : Box) → Type 0
 MeetsPart sub part met = (position : List ℕ) → Holds part position → Holds met (quotients position sub)
 
+-- and no others, if the part has a position: each is the subchunk of some position of it
+abbrev pub HasOnlyMet : (sub : List ℕ) → (part met : Box) → Type 0
+HasOnlyMet sub part met =
+    0 < position_count part.shape → (index : List ℕ) → Holds met index → ((position : List ℕ) × Holds part position × (quotients position sub ≡ index))
+
 -- what would be decoded whole of a subchunk that is present is too large
 pub record HasTooLarge (TooLarge : (number : ℕ) (encoded : List ℕ) → Type 0) (parts : List (Option (List ℕ))) : Type 0 where
   pub number : ℕ

@@ -58,6 +58,10 @@ pub record IsAt (r : ShardRead) (i : List ℕ) (n : ℕ) : Type 0 where
   pub at_n : place (quotients r.shape r.sub) i ≡ n
   pub below : n < count_of r
 
+-- no subchunk has these indices
+abbrev pub HasNoSubchunk : ShardRead → (index : List ℕ) → Type 0
+HasNoSubchunk r i = (n : ℕ) → IsAt r i n → ⊥
+
 -- the positions that the part shares with the subchunk with these indices, and the same seen from the corner of the subchunk
 pub record IsShare (r : ShardRead) (i : List ℕ) (n : ℕ) (shared own : Box) : Type 0 where
   pub meets : boxes_meet r.part (box_at r n) ≡ true

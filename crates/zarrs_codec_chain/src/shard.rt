@@ -1,8 +1,8 @@
 //! The boxes of subchunks, and of a part of their shard.
-ghost use Rattle.std.specs.Prelude.{◌≡◌, ◌+◌, ◌/◌, ◌≤◌, ◌<◌, ◌^◌, ◌&&◌, ℕ, List, true, IfOk, length, slice_index};
+ghost use Rattle.std.specs.Prelude.{◌≡◌, ◌+◌, ◌*◌, ◌/◌, ◌≤◌, ◌<◌, ◌^◌, ◌&&◌, ℕ, List, true, IfOk, length, slice_index};
 ghost use Rattle.zarrs_codec_shard.specs.Subchunks.{is_cut_by};
 ghost use Rattle.zarrs_subset.specs.Regions.{LiesInShape, box_of, in_box, overlap_of, seen_from};
-ghost use Rattle.zarrs_codec_chain.specs.ShardParts.{MeetsPart};
+ghost use Rattle.zarrs_codec_chain.specs.ShardParts.{HasOnlyMet, MeetsPart};
 
 use std::alloc::{AllocError, Global};
 use zarrs_subset::ArraySubset;
@@ -45,7 +45,8 @@ pub(crate) fn met_subchunks(
 ) -> Result<ArraySubset, AllocError>
     requires cut { is_cut_by shape.now sub.now ≡ true }
     requires part { LiesInShape (box_of part.now) shape.now }
-    ensures { IfOk result (λ met. MeetsPart sub.now (box_of part.now) (box_of met)) }
+    ensures met { IfOk result (λ met. MeetsPart sub.now (box_of part.now) (box_of met)) }
+    ensures only { IfOk result (λ met. HasOnlyMet sub.now (box_of part.now) (box_of met)) }
 {
     let mut start = Vec::with_capacity(alloc, sub.len())?;
     let mut extents = Vec::with_capacity(alloc, sub.len())?;
@@ -63,6 +64,7 @@ fn met_extent(first: u64, end: u64, extent: u64) -> u64
     requires { 0 < extent }
     ensures within { first + result < 2 ^ 64 }
     ensures met { (i : ℕ) → i < end → i / extent < first + result }
+    ensures begins { (i : ℕ) → first ≤ i → i < first + result → i * extent < end }
 {
     if end == 0 {
         return 0;

@@ -60,8 +60,8 @@ impl<'s, 'p, B: ByteSource> ShardPart<'s, 'p, B> {
     ghost use Rattle.zarrs_codec_shard.specs.Subchunks.{subchunk_box};
     ghost use Rattle.zarrs_codec_chain.specs.OpenShards.{read_of};
     ghost use Rattle.zarrs_codec_chain.specs.Places.{boxes_meet};
-    ghost use Rattle.zarrs_codec_chain.specs.ShardParts.{IsNoShard, MeetsPart};
-    ghost use Rattle.zarrs_codec_chain.specs.ShardReads.{HasNone, IsAt, IsShare, box_at, count_of, entry_of, parts_of};
+    ghost use Rattle.zarrs_codec_chain.specs.ShardParts.{HasOnlyMet, IsNoShard, MeetsPart};
+    ghost use Rattle.zarrs_codec_chain.specs.ShardReads.{HasNoSubchunk, HasNone, IsAt, IsShare, box_at, count_of, entry_of, parts_of};
     ghost use Rattle.zarrs_codec_chain.specs.Stored.{MayReadAll};
 
     /// A part of a shard of this shape that is cut into subchunks of the shape `sub`, or `None` if the bytes are no such
@@ -134,8 +134,10 @@ impl<'s, 'p, B: ByteSource> ShardPart<'s, 'p, B> {
     /// # Errors
     /// `AllocError`: out of memory.
     pub fn met(&self, alloc: Global) -> Result<ArraySubset, AllocError>
-        ensures { IfOk result (λ met. MeetsPart (read_of self.now).sub (read_of self.now).part
+        ensures met { IfOk result (λ met. MeetsPart (read_of self.now).sub (read_of self.now).part
             (box_of met)) }
+        ensures only { IfOk result (λ met. HasOnlyMet (read_of self.now).sub
+            (read_of self.now).part (box_of met)) }
     {
         met_subchunks(
             alloc,
@@ -147,7 +149,7 @@ impl<'s, 'p, B: ByteSource> ShardPart<'s, 'p, B> {
 
     /// The number of the subchunk with these indices, or `None` if there is none.
     pub fn number(&self, indices: &[u64]) -> Option<u64>
-        ensures none { IfNone result (HasNone (read_of self.now) indices.now) }
+        ensures none { IfNone result (HasNoSubchunk (read_of self.now) indices.now) }
         ensures number { IfSome result (IsAt (read_of self.now) indices.now) }
     {
         let Some(number) = ravel_indices(indices, self.subchunks.grid()) else {

@@ -16,6 +16,12 @@ pub struct Stored<'s, B: ByteSource> {
 }
 
 impl<B: ByteSource> Clone for Stored<'_, B> {
+    ghost use Rattle.std.specs.Prelude.{⊤};
+
+    ghost is_clone = { λ stored copy. copy ≡ stored };
+
+    ghost is_infallible = { λ _. ⊤ };
+
     fn clone(&self) -> Result<Self, AllocError> {
         Ok(*self)
     }

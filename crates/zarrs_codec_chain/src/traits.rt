@@ -101,10 +101,10 @@ pub trait ChainTraits {
     /// that the part needs.
     ///
     /// # Errors
-    /// `Codec(DoesNotFit)` if the bytes do not decode, though a part of them may; `Codec(SizeOverflow)` if what the chain
-    /// decodes whole for this part is too large, the chunk or a subchunk that the part meets: its cells, or its fill if its
-    /// bytes leave out cells; `Source` if the source refuses. Which comes if several hold is open. `Codec(OutOfMemory)` may
-    /// come at any time.
+    /// `Codec(DoesNotFit)` if the bytes do not decode, though a part of them may, unless it is the whole chunk;
+    /// `Codec(SizeOverflow)` if what the chain decodes whole for this part is too large, the chunk or a subchunk that the
+    /// part meets: its cells, or its fill if its bytes leave out cells; `Source` if the source refuses. Which comes if
+    /// several hold is open. `Codec(OutOfMemory)` may come at any time.
     fn partial_decode<B: ByteSource>(
         &self,
         alloc: Global,
@@ -122,6 +122,8 @@ pub trait ChainTraits {
             (window_bytes window (B.bytes source.now))) }
         ensures cells { IfOk result (λ made. HoldsPart (meaning self.now) chunk.now
             (box_of part.now) (window_bytes window (B.bytes source.now)) (data_of made)) }
+        ensures whole { (box_of part.now).shape ≡ shape_of chunk.now → IfOk result (λ _. IsSome
+            (decoded_of (meaning self.now) chunk.now (window_bytes window (B.bytes source.now)))) }
         ensures refused { IfErr result (RefusesToDecodePart (meaning self.now) chunk.now
             (box_of part.now) (window_bytes window (B.bytes source.now)) (B.refuses source.now)) };
 

@@ -1,5 +1,5 @@
 -- Which key a refused opening names, and that what metadata says is refused by no store.
-use Rattle.std.proofs.Common.{◌≡◌, inl, inr, ℕ, List, [], ◌∷◌, length, Option, Some, None, Result, Ok, Err, Bool, true, false, ◌==◌, if◌then◌else◌, subst}
+use Rattle.std.proofs.Common.{◌≡◌, ℕ, List, [], ◌∷◌, length, Option, Some, None, Result, Ok, Err, Bool, true, false, ◌==◌, if◌then◌else◌, subst}
 use Rattle.zarrs_keys.specs.Metadata.{key_encoding_of}
 use Rattle.zarrs_chunk_grid.specs.Metadata.{grid_said}
 use Rattle.zarrs_data_type.specs.FillMetadata.{fill_said}
@@ -8,7 +8,6 @@ use Rattle.zarrs_codec.specs.Metadata.{chain_said}
 use Rattle.zarrs_options.specs.Options.{transformers_said}
 use Rattle.zarrs_keys.specs.declared.error.NodePathError.{NodePathError}
 use Rattle.zarrs_keys.specs.declared.error.NodePathError.TheVariants as path_error
-use Rattle.zarrs_storage.specs.Refusals.{NamesKey}
 use Rattle.zarrs_storage.specs.declared.error.StorageError.{StorageError}
 use Rattle.zarrs_storage.specs.declared.error.StorageError.TheVariants as store_error
 use Rattle.zarrs_metadata_v3.specs.Fields.{FieldData}
@@ -20,6 +19,7 @@ use Rattle.zarrs_metadata.specs.Versions.{MetadataData, v3, v2}
 use Rattle.zarrs_options.specs.Refusals.{CreateRefusal, node_path, additional_field, data_type, fill_value, fill_value_metadata, codecs, storage_transformers, chunk_grid, chunk_key_encoding, grid_dimensions, dimension_names, subchunk_shape, storage, unread, missing_metadata, unsupported_v2, out_of_memory, unused, said_or, create_refusal_of, RefusesCreation}
 use Rattle.zarrs_creation.specs.Meanings.{Meaning, names_said, extents_said, not_converted, creation_by, creation_v3, creation, ◌>>=◌}
 use Rattle.zarrs_creation.specs.Opening.{NamesOneOf, fields_understood}
+use Rattle.zarrs_creation.specs.Writing.{without_document}
 
 -- of fewer keys it is one of more
 pub named_more : (P Q : List ℕ → Type 0) (r : CreateRefusal) → ((key : List ℕ) → P key → Q key) → NamesOneOf P r → NamesOneOf Q r
@@ -103,8 +103,7 @@ unstored_names : {A : Type 0} (P : List ℕ → Type 0) (o : Result A CreateRefu
 unstored_names P o un r is = go r is
   where
     none : (key : List ℕ) → RefusesCreation o (unread key) → ⊥
-    none key (inl is) = subst (λ x. Unstored x) is un
-    none key (inr is) = subst (λ x. Unstored x) is un
+    none key is = subst (λ x. Unstored x) is un
 
     go : (r : CreateRefusal) → RefusesCreation o r → NamesOneOf P r
     go (unread key) is = absurd (none key is)
@@ -143,11 +142,11 @@ pub path_names : (P : List ℕ → Type 0) (e : NodePathError) → NamesOneOf P 
 path_names P path_error.Invalid = tt
 path_names P path_error.OutOfMemory = tt
 
--- a read that is refused names the key that was asked
-pub key_names : (key : List ℕ) (e : StorageError) → NamesKey key e → NamesOneOf (λ at. at ≡ key) (create_refusal_of (create_error_of_storage e))
-key_names key (store_error.InvalidMetadata at said) named = named
-key_names key store_error.ReadOnly named = tt
-key_names key store_error.InvalidByteRange named = tt
-key_names key store_error.Exhausted named = tt
-key_names key (store_error.Other said) named = tt
-key_names key store_error.OutOfMemory named = tt
+-- a store that refuses names no key
+pub store_names : (P : List ℕ → Type 0) (e : StorageError) → NamesOneOf P (create_refusal_of (create_error_of_storage (without_document e)))
+store_names P (store_error.InvalidMetadata at said) = tt
+store_names P store_error.ReadOnly = tt
+store_names P store_error.InvalidByteRange = tt
+store_names P store_error.Exhausted = tt
+store_names P (store_error.Other said) = tt
+store_names P store_error.OutOfMemory = tt

@@ -17,6 +17,7 @@ use Rattle.zarrs_options.specs.Refusals.{CreateRefusal, node_path, storage, unre
 use Rattle.zarrs_options.specs.declared.versions.MetadataRetrieveVersion.{MetadataRetrieveVersion}
 use Rattle.zarrs_creation.specs.Meanings.{Meaning, creation, created, ◌>>=◌}
 use Rattle.zarrs_creation.specs.Opening.{v3_key, v2_array_key, attributes_key, value_asked, fields_understood, understood_document, document_v2_read, attributed, stored_v3, stored_v2, stored_default, stored_by, stored_metadata, opened}
+use Rattle.zarrs_creation.specs.Writing.{without_document}
 use Rattle.zarrs_creation.proofs.Order.{bound}
 
 -- ---- tests
@@ -60,16 +61,16 @@ module _ (state : StoreState) (key : List ℕ) where
   pub key_refused : state.refuses key ≡ true → value_asked state key ≡ Err storage
   key_refused refuses = rw refuses refl
 
-  any_refused : (e : StorageError) → state.refuses key ≡ true → RefusesCreation (value_asked state key) (create_refusal_of (create_error_of_storage e))
-  any_refused (store_error.InvalidMetadata at text) refuses = inr (key_refused refuses)
+  any_refused : (e : StorageError) → state.refuses key ≡ true → RefusesCreation (value_asked state key) (create_refusal_of (create_error_of_storage (without_document e)))
+  any_refused (store_error.InvalidMetadata at text) refuses = key_refused refuses
   any_refused store_error.ReadOnly refuses = key_refused refuses
   any_refused store_error.InvalidByteRange refuses = key_refused refuses
   any_refused store_error.Exhausted refuses = key_refused refuses
   any_refused (store_error.Other text) refuses = key_refused refuses
   any_refused store_error.OutOfMemory refuses = tt
 
-  pub read_refused : (e : StorageError) → RefusesRead state key e → RefusesCreation (value_asked state key) (create_refusal_of (create_error_of_storage e))
-  read_refused e (inl is) = subst (λ (x : StorageError). RefusesCreation (value_asked state key) (create_refusal_of (create_error_of_storage x))) (sym is) tt
+  pub read_refused : (e : StorageError) → RefusesRead state key e → RefusesCreation (value_asked state key) (create_refusal_of (create_error_of_storage (without_document e)))
+  read_refused e (inl is) = subst (λ (x : StorageError). RefusesCreation (value_asked state key) (create_refusal_of (create_error_of_storage (without_document x)))) (sym is) tt
   read_refused e (inr refuses) = any_refused e refuses
 
   pub is_asked : (state.refuses key ≡ true → ⊥) → value_asked state key ≡ Ok (value_at state key)

@@ -1,5 +1,5 @@
 -- Which refusal of a creation comes first.
-use Rattle.std.proofs.Common.{◌≡◌, inl, inr, ℕ, List, length, Some, Result, Ok, refl}
+use Rattle.std.proofs.Common.{◌≡◌, ℕ, List, length, Some, Result, Ok, refl}
 use Rattle.zarrs_metadata_v3.specs.Document.{DocumentData}
 use Rattle.zarrs_keys.specs.Metadata.{key_encoding_of}
 use Rattle.zarrs_keys.specs.declared.encodings.ChunkKeyEncoding.{ChunkKeyEncoding}
@@ -29,8 +29,7 @@ bound o f (grid_dimensions n d) is = rw is refl
 bound o f (dimension_names n d) is = rw is refl
 bound o f (subchunk_shape shape) is = rw is refl
 bound o f storage is = rw is refl
-bound o f (unread key) (inl is) = inl (rw is refl)
-bound o f (unread key) (inr is) = inr (rw is refl)
+bound o f (unread key) is = rw is refl
 bound o f missing_metadata is = rw is refl
 bound o f unsupported_v2 is = rw is refl
 bound o f out_of_memory is = tt

@@ -75,3 +75,12 @@ NamesNoDocument stored.InvalidByteRange = Unit {0}
 NamesNoDocument stored.Exhausted = Unit {0}
 NamesNoDocument (stored.Other said) = Unit {0}
 NamesNoDocument stored.OutOfMemory = Unit {0}
+
+-- the refusal without the document that it names: its reason, as `Other`
+abbrev pub without_document : StorageError → StorageError
+without_document (stored.InvalidMetadata key said) = stored.Other said
+without_document stored.ReadOnly = stored.ReadOnly
+without_document stored.InvalidByteRange = stored.InvalidByteRange
+without_document stored.Exhausted = stored.Exhausted
+without_document (stored.Other said) = stored.Other said
+without_document stored.OutOfMemory = stored.OutOfMemory

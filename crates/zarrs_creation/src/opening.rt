@@ -11,6 +11,7 @@ ghost use Rattle.zarrs_creation.specs.Opening.{stored_v3, stored_v2, stored_defa
 ghost use Rattle.zarrs_creation.specs.Opening.{MayAskKey, MayAskV2, MayAskMetadata};
 ghost use Rattle.zarrs_creation.specs.Opening.{IsV2Key, IsMetadataKey, NamesOneOf, ReadsOrRefuses};
 
+use crate::writing::store_refusal;
 use std::alloc::{AllocError, Global};
 use zarrs_keys::{NodePath, meta_key_v2_array, meta_key_v2_attributes, meta_key_v3};
 use zarrs_metadata::{
@@ -98,8 +99,10 @@ fn value_asked<S: ReadableStorageTraits>(
     ensures { ReadsOrRefuses (λ at. at ≡ key.now) (value_asked (S.state storage.now) key.now)
         (λ value. value) result }
 {
-    let value = storage.get(alloc, key)?;
-    Ok(value)
+    match storage.get(alloc, key) {
+        Ok(value) => Ok(value),
+        Err(error) => Err(store_refusal(error).into()),
+    }
 }
 
 /// Reads the V3 document of the array at the path, `None` if it is absent.
@@ -212,8 +215,9 @@ fn stored_by<S: ReadableStorageTraits>(
 /// are those of a V2 array, if they are present.
 ///
 /// # Errors
-/// E23 if the store refuses a key that is asked, and for a value there that is no such document; E24 if the metadata is
-/// absent; E12 for an additional field of a V3 document that must be understood. E26 may come at any time.
+/// E23 if the store refuses a key that is asked, and, as an `InvalidMetadata` of this key, for a value there that is no
+/// such document; E24 if the metadata is absent; E12 for an additional field of a V3 document that must be understood.
+/// E26 may come at any time.
 pub fn stored_metadata<S: ReadableStorageTraits>(
     alloc: Global,
     storage: &S,

@@ -8,7 +8,7 @@ ghost use Rattle.zarrs_engine_calls.specs.Refusals.{refusal_of_storage};
 ghost use Rattle.zarrs_creation.specs.Opening.{v3_key, v2_array_key, attributes_key};
 ghost use Rattle.zarrs_creation.specs.Writing.{put_at, put_view, erasures, IsTextOfAttributes};
 ghost use Rattle.zarrs_creation.specs.Writing.{IsWrittenV3, IsWrittenV2, IsWrittenBy};
-ghost use Rattle.zarrs_creation.specs.Writing.{NamesNoDocument};
+ghost use Rattle.zarrs_creation.specs.Writing.{NamesNoDocument, without_document};
 
 use std::alloc::Global;
 use zarrs_keys::{NodePath, meta_key_v2_array, meta_key_v2_attributes, meta_key_v3};
@@ -166,9 +166,10 @@ pub fn erasures_of_metadata(
     }
 }
 
-/// Returns the refusal of a call that writes metadata, by what its store answered. No document was read, so that none is
-/// named: of an `InvalidMetadata` the reason is kept, as `Other`.
-pub fn write_refusal(error: StorageError) -> StorageError
+/// Returns the refusal of a call of a store on metadata, by what the store answered. A store reads no document, so that
+/// none is named: of an `InvalidMetadata` the reason is kept, as `Other`.
+pub fn store_refusal(error: StorageError) -> StorageError
+    ensures is { result ≡ without_document error }
     ensures named { NamesNoDocument result }
     ensures refusal { refusal_of_storage result ≡ refusal_of_storage error }
     ensures kept { NamesNoDocument error → result ≡ error }

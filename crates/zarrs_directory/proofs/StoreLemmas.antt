@@ -10,7 +10,7 @@ use Rattle.std.specs.BTreeSet.{BTreeSet}
 use Rattle.std.specs.BTreeSet as sorted
 use Rattle.std.specs.FinMap as map
 use Rattle.std.specs.FinMap.{same_map, slice_cmp-IsAntisymmetric, nat_cmp-IsAntisymmetric}
-use Rattle.std.proofs.lemmas.Bool.{cases_Bool}
+use Rattle.std.proofs.lemmas.Bool.{cases_Bool, false≢true}
 use Rattle.std.proofs.lemmas.Cmp.{nat_list_cmp_total}
 use Rattle.std.proofs.lemmas.Map.Text.{is_eq-slice_cmp}
 use Rattle.std.proofs.lemmas.Slice.Eq.{bytes_eq-Decides}
@@ -65,3 +65,20 @@ noted_keys old new k held updates same = record {
       updates.0 q
       ∙ ap (λ (b : Bool). cond b true (has_key old q)) (is_eq-slice_cmp held q ∙ apart held q (λ equal. other (sym equal ∙ same)));
 }
+
+-- a key that was not there is added, and taken away again
+pub unnoted : (old noted new : BTreeSet (List ℕ)) (key : List ℕ) → has_key old key ≡ false → KeepsKeys old noted key → has_key new key ≡ false
+    → ((other : List ℕ) → (other ≡ key → ⊥) → has_key new other ≡ has_key noted other) → (other : List ℕ) → has_key new other ≡ has_key old other
+unnoted old noted new key absent keeps gone keys other =
+    elim (cases_Bool (bytes_eq other key)) [
+      | inl same ↦ let is : other ≡ key = (bytes_eq-Decides other key).0 same in ap (has_key new) is ∙ gone ∙ sym absent ∙ ap (has_key old) (sym is)
+      | inr apart ↦
+          let differs : other ≡ key → ⊥ = λ equal. false≢true (sym apart ∙ (bytes_eq-Decides other key).1 equal) in
+          keys other differs ∙ keeps.others other differs
+    ]
+
+-- a key is taken away from a set
+pub unnoted_keys : (old new : BTreeSet (List ℕ)) (k : List ℕ) → sorted.Updates (slice_cmp nat_cmp) old new k false
+    → (q : List ℕ) → (q ≡ k → ⊥) → has_key new q ≡ has_key old q
+unnoted_keys old new k updates q other =
+    updates.0 q ∙ ap (λ (b : Bool). cond b false (has_key old q)) (is_eq-slice_cmp k q ∙ apart k q (λ equal. other (sym equal)))

@@ -1,12 +1,15 @@
 -- What a store over a directory is: what was read of it, and what was written since.
-use Rattle.std.specs.Prelude.{◌≡◌, ◌≢◌, ◌==◌, ℕ, List, [], Bool, true, false, codes, Contains}
+use Rattle.std.specs.Prelude.{◌≡◌, ◌≢◌, ◌==◌, ◌&&◌, ℕ, ◌-◌, List, [], ◌∷◌, ◌++◌, Bool, true, false, not, nat_lt, if◌then◌else◌}
+use Rattle.std.specs.Prelude.{codes, length, slice_index, string_bytes, Contains}
 use Rattle.std.specs.List.{slice_split}
 use Rattle.std.specs.Ordering.{nat_cmp}
 use Rattle.std.specs.Cmp.Lexicographic.{slice_cmp}
 use Rattle.std.specs.BTreeSet.{BTreeSet, contains}
 use Rattle.std.specs.FinMap as map
-use Rattle.zarrs_storage.specs.Store.{StoreState, Values, slash}
+use Rattle.zarrs_storage.specs.Store.{StoreState, Values, slash, last_call}
 use Rattle.zarrs_storage.specs.Memory.{values_of}
+use Rattle.zarrs_storage.specs.declared.error.StorageError.{StorageError}
+use Rattle.zarrs_storage.specs.declared.error.StorageError.TheVariants.{InvalidMetadata, ReadOnly, InvalidByteRange, Exhausted, Other, OutOfMemory}
 use Rattle.zarrs_directory.specs.declared.files.Directory.{Directory}
 use Rattle.zarrs_directory.specs.declared.store.DirectoryStore.{DirectoryStore}
 
@@ -19,6 +22,42 @@ names_of key = slice_split (λ byte. byte == slash) key
 -- a name that stays in its folder: some bytes without 0, and neither `.` nor `..`
 abbrev pub IsName : List ℕ → Type 0
 IsName name = (name ≢ []) × (name ≢ codes ".") × (name ≢ codes "..") × (Contains name 0 → ⊥)
+
+-- whether a `/` is missing between two paths
+abbrev pub lacks_slash : List ℕ → List ℕ → Bool
+lacks_slash root key = nat_lt 0 (length root) && not (slice_index root (length root - 1) == slash) && nat_lt 0 (length key)
+
+-- the path of what lies at the key below the root
+abbrev pub path_below : List ℕ → List ℕ → List ℕ
+path_below root key = (if lacks_slash root key then root ++ slash ∷ [] else root) ++ key
+
+-- the path of the directory
+abbrev pub root_of : {R : Type 0} → Directory R → List ℕ
+root_of directory = string_bytes directory.root
+
+-- ---- refusals
+
+-- the text has the key, and after it what the system said
+abbrev pub SaysKey : List ℕ → List ℕ → Type 0
+SaysKey key text = (said : List ℕ) × (text ≡ key ++ codes ": " ++ said)
+
+-- the file of the key is refused with what the system said, or out of memory
+abbrev pub RefusesFile : List ℕ → StorageError → Type 0
+RefusesFile key (InvalidMetadata at said) = ⊥
+RefusesFile key ReadOnly = ⊥
+RefusesFile key InvalidByteRange = ⊥
+RefusesFile key Exhausted = ⊥
+RefusesFile key (Other said) = SaysKey key (string_bytes said)
+RefusesFile key OutOfMemory = Unit {0}
+
+-- no writing call is left, or the file of the key is refused
+abbrev pub RefusesWriting : StoreState → List ℕ → StorageError → Type 0
+RefusesWriting s key (InvalidMetadata at said) = ⊥
+RefusesWriting s key ReadOnly = ⊥
+RefusesWriting s key InvalidByteRange = ⊥
+RefusesWriting s key Exhausted = s.calls ≡ last_call
+RefusesWriting s key (Other said) = SaysKey key (string_bytes said)
+RefusesWriting s key OutOfMemory = Unit {0}
 
 -- ---- the store
 
@@ -57,12 +96,39 @@ directory_state s = record {
 abbrev pub directory_of : {R : Type 0} → DirectoryStore R → Directory R
 directory_of s = s.directory
 
+-- the counts of writing calls stay
+pub record KeepsCounts {R : Type 0} (old new : DirectoryStore R) : Type 0 where
+  pub calls : new.counts.calls ≡ old.counts.calls
+  pub failures : new.counts.failures ≡ old.counts.failures
+  pub parts : new.counts.parts ≡ old.counts.parts
+
+-- The store is over the directory at this path. Nothing was read of it and nothing written to it.
+pub record IsNew {R : Type 0} (root : List ℕ) (s : DirectoryStore R) : Type 0 where
+  pub path : root_of (directory_of s) ≡ root
+  pub keys : (key : List ℕ) → was_read s key ≡ false
+  pub values : values_of s.values ≡ map.empty
+  pub calls : s.counts.calls ≡ 0
+  pub failures : s.counts.failures ≡ 0
+  pub parts : s.counts.parts ≡ 0
+
+-- What was read and written is forgotten: no key may be asked. The directory and the counts stay.
+pub record Forgets {R : Type 0} (old new : DirectoryStore R) : Type 0 where
+  pub keys : (key : List ℕ) → was_read new key ≡ false
+  pub values : values_of new.values ≡ map.empty
+  pub directory : directory_of new ≡ directory_of old
+  pub counts : KeepsCounts old new
+
 -- A key of the directory is read: each other key has the value that it had and may be asked if it might, and no key that
 -- might be asked is lost.
 pub record ReadsKey {R : Type 0} (old new : DirectoryStore R) (key : List ℕ) : Type 0 where
   pub keys : KeepsKeys old.read new.read key
   pub values : KeepsOtherValues (values_of old.values) (values_of new.values) key
   pub directory : directory_of new ≡ directory_of old
-  pub calls : new.counts.calls ≡ old.counts.calls
-  pub failures : new.counts.failures ≡ old.counts.failures
-  pub parts : new.counts.parts ≡ old.counts.parts
+  pub counts : KeepsCounts old new
+
+-- nothing of the store is changed
+pub record Stays {R : Type 0} (old new : DirectoryStore R) : Type 0 where
+  pub keys : (key : List ℕ) → was_read new key ≡ was_read old key
+  pub values : values_of new.values ≡ values_of old.values
+  pub directory : directory_of new ≡ directory_of old
+  pub counts : KeepsCounts old new

@@ -1,7 +1,8 @@
 //! The files of a directory.
-ghost use Rattle.std.specs.Prelude.{OnOk};
+ghost use Rattle.std.specs.Prelude.{◌≡◌, string_bytes, IfErr, IfOk, OnOk};
 ghost use Rattle.std.specs.List.{All};
-ghost use Rattle.zarrs_directory.specs.Directory.{IsName, names_of};
+ghost use Rattle.zarrs_directory.specs.Directory.{IsName, names_of, path_below, root_of};
+ghost use Rattle.zarrs_directory.specs.Directory.{RefusesFile, SaysKey};
 
 use crate::names::{is_path, joined};
 use std::alloc::{AllocError, Global};
@@ -21,9 +22,20 @@ fn is_absent(error: &io::Error) -> bool {
     matches!(error.kind(), ErrorKind::NotFound | ErrorKind::NotADirectory)
 }
 
+/// Returns a text of the key, and of what the system said.
+fn text_of(alloc: Global, key: &StoreKey, error: &io::Error) -> Result<String, AllocError>
+    ensures { IfOk result (λ text. SaysKey key.now (string_bytes text)) }
+{
+    let said = format!(in alloc; "{error}")?;
+    let text = format!(in alloc; "{key}: {said}")?;
+    Ok(text)
+}
+
 /// Makes the refusal that says the key, and what the system said.
-fn refusal(alloc: Global, key: &StoreKey, error: io::Error) -> StorageError {
-    match format!(in alloc; "{key}: {error}") {
+fn refusal(alloc: Global, key: &StoreKey, error: io::Error) -> StorageError
+    ensures { RefusesFile key.now result }
+{
+    match text_of(alloc, key, &error) {
         Ok(text) => StorageError::Other(text),
         Err(_) => StorageError::OutOfMemory,
     }
@@ -73,13 +85,17 @@ impl<'r, R: Files + AllocGlobal> Directory<'r, R> {
     ///
     /// # Errors
     /// `AllocError`: out of memory.
-    pub fn new(rt: &'r R, root: &str) -> Result<Directory<'r, R>, AllocError> {
+    pub fn new(rt: &'r R, root: &str) -> Result<Directory<'r, R>, AllocError>
+        ensures { IfOk result (λ directory. root_of directory ≡ root.now) }
+    {
         let root = String::from_str(rt.alloc(), root)?;
         Ok(Directory { rt, root })
     }
 
     /// Returns the path of the directory.
-    pub fn root(&self) -> &str {
+    pub fn root(&self) -> &str
+        ensures { result.now ≡ root_of self.now }
+    {
         self.root.as_str()
     }
 
@@ -102,7 +118,8 @@ impl<'r, R: Files + AllocGlobal> Directory<'r, R> {
 
     /// Returns the path of the file at the key.
     fn path_of(&self, alloc: Global, key: &StoreKey) -> io::Result<String>
-        ensures { OnOk result (All IsName (names_of key.now)) }
+        ensures names { OnOk result (All IsName (names_of key.now)) }
+        ensures path { IfOk result (λ path. string_bytes path ≡ path_below (root_of self.now) key.now) }
     {
         if !is_path(alloc, key.as_str())? {
             return Err(io::Error::from(ErrorKind::InvalidFilename));
@@ -147,7 +164,9 @@ impl<'r, R: Files + AllocGlobal> Directory<'r, R> {
     ///
     /// # Errors
     /// `Other` with the key and the system's text, if the file cannot be read or the key is no path; `OutOfMemory`.
-    pub fn read(&self, alloc: Global, key: &StoreKey) -> Result<Option<Vec<u8>>, StorageError> {
+    pub fn read(&self, alloc: Global, key: &StoreKey) -> Result<Option<Vec<u8>>, StorageError>
+        ensures { IfErr result (RefusesFile key.now) }
+    {
         match self.read_file(alloc, key) {
             Ok(bytes) => Ok(bytes),
             Err(error) => Err(refusal(alloc, key, error)),
@@ -158,7 +177,9 @@ impl<'r, R: Files + AllocGlobal> Directory<'r, R> {
     ///
     /// # Errors
     /// `Other` with the key and the system's text; `OutOfMemory`.
-    pub fn replace(&self, alloc: Global, key: &StoreKey, bytes: &[u8]) -> Result<(), StorageError> {
+    pub fn replace(&self, alloc: Global, key: &StoreKey, bytes: &[u8]) -> Result<(), StorageError>
+        ensures { IfErr result (RefusesFile key.now) }
+    {
         match self.replace_file(alloc, key, bytes) {
             Ok(()) => Ok(()),
             Err(error) => Err(refusal(alloc, key, error)),
@@ -169,7 +190,9 @@ impl<'r, R: Files + AllocGlobal> Directory<'r, R> {
     ///
     /// # Errors
     /// `Other` with the key and the system's text; `OutOfMemory`.
-    pub fn remove(&self, alloc: Global, key: &StoreKey) -> Result<(), StorageError> {
+    pub fn remove(&self, alloc: Global, key: &StoreKey) -> Result<(), StorageError>
+        ensures { IfErr result (RefusesFile key.now) }
+    {
         match self.remove_file(alloc, key) {
             Ok(()) => Ok(()),
             Err(error) => Err(refusal(alloc, key, error)),

@@ -1,10 +1,14 @@
 //! `DirectoryStore`: a store over what was read of a directory.
 ghost use Rattle.std.specs.Prelude.{◌≡◌, ◌⊎◌, ◌+◌, ◌<◌, ◌≤◌, ℕ, List, length, take, drop, true, false, None};
-ghost use Rattle.std.specs.Prelude.{IfErr, IfOk, OnOk, OnErr, IsErrOf};
+ghost use Rattle.std.specs.Prelude.{IfErr, IfOk, IfSome, OnOk, OnErr, IsOk, IsErr, IsErrOf};
+ghost use Rattle.std.specs.Option.{option_copied};
 ghost use Rattle.std.specs.FinMap as map;
-ghost use Rattle.zarrs_storage.specs.Store.{Accepts, Refuses, last_call};
+ghost use Rattle.zarrs_storage.specs.Store.{Accepts, AcceptsPartial, Refuses, RefusesPartial};
+ghost use Rattle.zarrs_storage.specs.Store.{LendsValue, last_call, with_part};
 ghost use Rattle.zarrs_storage.specs.Memory.{values_of};
-ghost use Rattle.zarrs_directory.specs.Directory.{directory_of, directory_state, was_read, ReadsKey};
+ghost use Rattle.zarrs_directory.specs.Directory.{directory_of, directory_state, root_of, was_read};
+ghost use Rattle.zarrs_directory.specs.Directory.{Forgets, IsNew, ReadsKey, Stays};
+ghost use Rattle.zarrs_directory.specs.Directory.{RefusesFile, RefusesWriting};
 
 use crate::counts::WritingCalls;
 use crate::files::Directory;
@@ -34,6 +38,7 @@ fn put_present<R: Files + AllocGlobal>(
 ) -> Result<(), StorageError>
     ensures ok { OnOk result (present.new ≡ value) }
     ensures kept { OnErr result (present.new ≡ present.old) }
+    ensures reason { IfErr result (RefusesFile key.now) }
 {
     directory.replace(alloc, key, value.as_slice())?;
     *present = value;
@@ -54,6 +59,7 @@ fn put_absent<R: Files + AllocGlobal>(
     ensures ok { OnOk result (values_of values.new
         ≡ map.insert (values_of values.old) key.now value) }
     ensures kept { OnErr result (values_of values.new ≡ values_of values.old) }
+    ensures reason { IfErr result (RefusesFile key.now) }
 {
     insert_value(values, key, &value)?;
     match directory.replace(alloc, key, value.as_slice()) {
@@ -76,6 +82,7 @@ fn put<R: Files + AllocGlobal>(
     ensures ok { OnOk result (values_of values.new
         ≡ map.insert (values_of values.old) key.now value) }
     ensures kept { OnErr result (values_of values.new ≡ values_of values.old) }
+    ensures reason { IfErr result (RefusesFile key.now) }
 {
     match values.get_mut(key) {
         Some(present) => Ok(put_present(present, directory, alloc, key, value)?),
@@ -89,7 +96,7 @@ impl<'r, R: Files + AllocGlobal> DirectoryStore<'r, R> {
     /// # Errors
     /// `AllocError`: out of memory.
     pub fn new(rt: &'r R, root: &str) -> Result<DirectoryStore<'r, R>, AllocError>
-        ensures { IfOk result (λ s. (key : List ℕ) → was_read s key ≡ false) }
+        ensures { IfOk result (IsNew root.now) }
     {
         let alloc = rt.alloc();
         Ok(DirectoryStore {
@@ -101,7 +108,9 @@ impl<'r, R: Files + AllocGlobal> DirectoryStore<'r, R> {
     }
 
     /// Returns the path of the directory.
-    pub fn root(&self) -> &str {
+    pub fn root(&self) -> &str
+        ensures { result.now ≡ root_of (directory_of self.now) }
+    {
         self.directory.root()
     }
 
@@ -115,10 +124,14 @@ impl<'r, R: Files + AllocGlobal> DirectoryStore<'r, R> {
     /// Reads the file of the key, if it was not read, so that the key may be asked. Other keys stay as they are.
     ///
     /// # Errors
-    /// `Other` with the key and the system's text if the file cannot be read; `OutOfMemory`. What is held then is not said.
+    /// `Other` with the key and the system's text if the file cannot be read; `OutOfMemory`. Nothing is changed then.
     pub fn read(&mut self, alloc: Global, key: &StoreKey) -> Result<(), StorageError>
         ensures asked { OnOk result (was_read self.new key.now ≡ true) }
         ensures others { OnOk result (ReadsKey self.old self.new key.now) }
+        ensures again { was_read self.old key.now ≡ true
+            → (IsOk result × (self.new ≡ self.old)) }
+        ensures refused { OnErr result (Stays self.old self.new) }
+        ensures reason { IfErr result (RefusesFile key.now) }
     {
         if self.has_read(key) {
             return Ok(());
@@ -135,6 +148,7 @@ impl<'r, R: Files + AllocGlobal> DirectoryStore<'r, R> {
     pub fn forget(&mut self)
         ensures asked { (key : List ℕ) → was_read self.new key ≡ false }
         ensures directory { directory_of self.new ≡ directory_of self.old }
+        ensures forgets { Forgets self.old self.new }
     {
         self.values.clear();
         self.read.clear();
@@ -168,7 +182,11 @@ impl<'r, R: Files + AllocGlobal> ReadableStorageTraits for DirectoryStore<'r, R>
         Ok(self.values.get(key).map(|value| value.len() as u64))
     }
 
-    fn lend_value(&self, key: &StoreKey) -> Option<&[u8]> {
+    fn lend_value(&self, key: &StoreKey) -> Option<&[u8]>
+        requires may_ask { was_read self.now key.now ≡ true }
+        ensures lends { IfSome result (λ value. LendsValue (directory_state self.now) key.now value.now) }
+        ensures value { option_copied result ≡ map.get (directory_state self.now).values key.now }
+    {
         match self.values.get(key) {
             Some(value) => Some(value.as_slice()),
             None => None,
@@ -192,7 +210,15 @@ fn part_of(value: &Bytes, offset: u64, count: u64) -> Result<Bytes, StorageError
 }
 
 impl<'r, R: Files + AllocGlobal> WritableStorageTraits for DirectoryStore<'r, R> {
-    fn set(&mut self, alloc: Global, key: &StoreKey, value: Bytes) -> Result<(), StorageError> {
+    fn set(&mut self, alloc: Global, key: &StoreKey, value: Bytes) -> Result<(), StorageError>
+        ensures ok { OnOk result (Accepts (directory_state self.old) (directory_state self.new)
+            (map.insert (directory_state self.old).values key.now value)) }
+        ensures refused { OnErr result (Refuses (directory_state self.old) (directory_state self.new)) }
+        ensures exhausted { (directory_state self.old).calls ≡ last_call
+            → IsErrOf result StorageError.Exhausted }
+        ensures directory { directory_of self.new ≡ directory_of self.old }
+        ensures reason { IfErr result (RefusesWriting (directory_state self.old) key.now) }
+    {
         if self.counts.are_exhausted() {
             return Err(StorageError::Exhausted);
         }
@@ -201,7 +227,15 @@ impl<'r, R: Files + AllocGlobal> WritableStorageTraits for DirectoryStore<'r, R>
         outcome
     }
 
-    fn erase(&mut self, alloc: Global, key: &StoreKey) -> Result<(), StorageError> {
+    fn erase(&mut self, alloc: Global, key: &StoreKey) -> Result<(), StorageError>
+        ensures ok { OnOk result (Accepts (directory_state self.old) (directory_state self.new)
+            (map.remove (directory_state self.old).values key.now)) }
+        ensures refused { OnErr result (Refuses (directory_state self.old) (directory_state self.new)) }
+        ensures exhausted { (directory_state self.old).calls ≡ last_call
+            → IsErrOf result StorageError.Exhausted }
+        ensures directory { directory_of self.new ≡ directory_of self.old }
+        ensures reason { IfErr result (RefusesWriting (directory_state self.old) key.now) }
+    {
         if self.counts.are_exhausted() {
             return Err(StorageError::Exhausted);
         }
@@ -225,7 +259,19 @@ impl<'r, R: Files + AllocGlobal> WritableStorageTraits for DirectoryStore<'r, R>
         _key: &StoreKey,
         _offset: u64,
         _bytes: &[u8],
-    ) -> Result<(), StorageError> {
+    ) -> Result<(), StorageError>
+        ensures fails { IsErr result }
+        ensures ok { OnOk result (AcceptsPartial (directory_state self.old) (directory_state self.new)
+            (with_part (directory_state self.old).values _key.now _offset _bytes.now)) }
+        ensures refused { OnErr result
+            (RefusesPartial (directory_state self.old) (directory_state self.new)) }
+        ensures exhausted { (directory_state self.old).calls ≡ last_call
+            → IsErrOf result StorageError.Exhausted }
+        ensures directory { directory_of self.new ≡ directory_of self.old }
+        ensures reason { IfErr result (λ e. (e ≡ StorageError.ReadOnly)
+            ⊎ ((e ≡ StorageError.Exhausted)
+            × ((directory_state self.old).calls ≡ last_call))) }
+    {
         if self.counts.are_exhausted() {
             return Err(StorageError::Exhausted);
         }

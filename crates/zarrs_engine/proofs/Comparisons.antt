@@ -1,5 +1,5 @@
 -- The chunks of a list, compared one after another.
-use Rattle.std.proofs.Common.{◌≡◌, ◌∙◌, ◌+◌, ◌⊎◌, ℕ, Bool, true, false, List, length, take, get_or, slice_get, Some}
+use Rattle.std.proofs.Common.{◌≡◌, ◌∙◌, ◌+◌, ◌⊎◌, ℕ, Bool, true, false, List, length, take, get_or, slice_get, Some, None}
 use Rattle.std.proofs.Common.{Contains, inl, inr, refl, ap, subst, arith}
 use Rattle.std.specs.Bool.{OnFalse, OnTrue}
 use Rattle.std.proofs.lemmas.Bool.{cases_lt, false≢true}
@@ -16,8 +16,8 @@ use Rattle.zarrs_engine_calls.specs.Layout.{Layout, IsLawful}
 use Rattle.zarrs_engine_calls.specs.Content.{value_at}
 use Rattle.zarrs_engine_calls.specs.Refusals.{Refusal, RefusesBy, key_refusal}
 use Rattle.zarrs_engine_calls.proofs.Comparisons.{comparison_is_content}
-use Rattle.zarrs_engine.specs.Comparisons.{ComparesContent, DifferInChunk, HoldSameChunks, RefusesComparison}
-use Rattle.zarrs_engine.proofs.Encoded.{value_refused}
+use Rattle.zarrs_engine.specs.Comparisons.{ComparesContent, DifferInChunk, HoldSameChunks, ReadBothKeys, RefusesComparison}
+use Rattle.zarrs_engine.proofs.Encoded.{keys_all, keys_more, value_refused}
 use Rattle.zarrs_engine.proofs.Ranges.{next_front}
 
 module _ (a b : Layout) (one two : StoreState) (chunks : List (List ℕ)) where
@@ -35,6 +35,16 @@ module _ (a b : Layout) (one two : StoreState) (chunks : List (List ℕ)) where
   pub same_all : (n : ℕ) → n ≡ length chunks → HoldSameChunks a b one two (take n chunks) → HoldSameChunks a b one two chunks
   same_all n all same =
       subst (λ (done : List (List ℕ)). HoldSameChunks a b one two done) (ap (λ n. take n chunks) all ∙ take_all (length chunks) chunks (omega arith)) same
+
+  -- of one more chunk both keys are read
+  pub both_more : (n m : ℕ) (index : List ℕ) → m ≡ n + 1 → slice_get chunks n ≡ Some index → ReadBothKeys a b one two (take n chunks)
+      → key_refusal a index one ≡ None → key_refusal b index two ≡ None → ReadBothKeys a b one two (take m chunks)
+  both_more n m index later at before first second =
+      (keys_more a one chunks n m index later at before.0 first, keys_more b two chunks n m index later at before.1 second)
+
+  -- of all of them
+  pub both_all : (n : ℕ) → n ≡ length chunks → ReadBothKeys a b one two (take n chunks) → ReadBothKeys a b one two chunks
+  both_all n all read = (keys_all a one chunks n all read.0, keys_all b two chunks n all read.1)
 
   -- one chunk's bytes are not returned
   pub comparison_refused : (index : List ℕ) (r : Refusal) → Contains chunks index → RefusesBy (key_refusal a index one) r ⊎ RefusesBy (key_refusal b index two) r

@@ -110,7 +110,7 @@ module _ (layout : Layout) (keep : Bool) (shape index : List ℕ) (state : Store
     -- the chunk cannot be read
     pub read_fails : IsLawful layout → (r : Refusal) → RefusesChunkRead layout (length_refusal layout index) true index state r → RefusesKeptCut layout keep shape index 0 state r
     read_fails lawful =
-        unread_why layout index state has fit (RefusesKeptCut layout keep shape index 0 state) tt (λ broken. (refl, fit, inl broken)) fill_fails (λ refuses. inl (refl, refuses))
+        unread_why layout index state has fit (RefusesKeptCut layout keep shape index 0 state) tt (λ broken. (refl, fit, inl broken)) fill_fails (λ refuses. inl (refl, fit, refuses))
       where
         fill_fails : fill_refusal layout (box_at layout.grid index).shape ≡ Some refusal.size_overflow → (value_at state (layout.key index) ≡ None) ⊎ NeedsLargeFill layout index state
             → RefusesKeptCut layout keep shape index 0 state refusal.size_overflow

@@ -4,6 +4,7 @@ use Rattle.std.proofs.Common.{Some, None, Result, Ok, Err, Contains, inl, inr, s
 use Rattle.std.specs.Result.{OnErr, is_err}
 use Rattle.std.proofs.lemmas.Bool.{cases_Bool, false≢true}
 use Rattle.std.proofs.lemmas.List.{map_push, take_more, take_all}
+use Rattle.std.proofs.lemmas.List.Elements.{Contains-push_cases}
 use Rattle.std.proofs.lemmas.Option.{slice_get_within, get_or_from_slice_get}
 use Rattle.zarrs_storage.specs.Store.{StoreState}
 use Rattle.zarrs_engine_calls.specs.Layout.{Layout}
@@ -13,7 +14,8 @@ use Rattle.zarrs_engine_calls.specs.Refusals.{Refusal, RefusesBy, key_refusal, l
 use Rattle.zarrs_engine_calls.proofs.RefusalLemmas.{memory_or_said, second_refusal}
 use Rattle.zarrs_engine_layout.specs.Steps.{RefusesValue}
 use Rattle.zarrs_engine_layout.proofs.Chunks.{right_length}
-use Rattle.zarrs_engine.specs.Encoded.{stored_values, RefusesEncoded}
+use Rattle.zarrs_engine.specs.Encoded.{ReadsKeys, stored_values, RefusesEncoded}
+use Rattle.zarrs_engine.proofs.Ranges.{next_front}
 
 -- of indices of the right length a value is refused by its key
 pub key_said : (layout : Layout) (index : List ℕ) → length index ≡ layout.grid.dimensions → (state : StoreState) (r : Refusal) → RefusesValue layout index state r → RefusesBy (key_refusal layout index state) r
@@ -39,6 +41,20 @@ module _ (layout : Layout) (state : StoreState) (chunks : List (List ℕ)) where
   -- the bytes of all
   pub values_all : (n : ℕ) (values : List (Option (List ℕ))) → n ≡ length chunks → values ≡ stored_values layout state (take n chunks) → values ≡ stored_values layout state chunks
   values_all n values all is = is ∙ ap (stored_values layout state) (ap (λ n. take n chunks) all ∙ take_all (length chunks) chunks (omega arith))
+
+  -- one more key is read
+  pub keys_more : (n m : ℕ) (index : List ℕ) → m ≡ n + 1 → slice_get chunks n ≡ Some index → ReadsKeys layout (take n chunks) state → key_refusal layout index state ≡ None
+      → ReadsKeys layout (take m chunks) state
+  keys_more n m index later at before here i among =
+      let next = ap (λ k. take k chunks) later ∙ next_front layout chunks n index at in
+      elim (Contains-push_cases (take n chunks) index i (subst (λ (done : List (List ℕ)). Contains done i) next among)) [
+        | inl earlier ↦ before i earlier
+        | inr is ↦ subst (λ (j : List ℕ). key_refusal layout j state ≡ None) is here
+      ]
+
+  -- all of them are
+  pub keys_all : (n : ℕ) → n ≡ length chunks → ReadsKeys layout (take n chunks) state → ReadsKeys layout chunks state
+  keys_all n all read = subst (λ (done : List (List ℕ)). ReadsKeys layout done state) (ap (λ n. take n chunks) all ∙ take_all (length chunks) chunks (omega arith)) read
 
   -- one chunk's bytes are not returned
   pub value_refused : (index : List ℕ) (r : Refusal) → Contains chunks index → RefusesBy (key_refusal layout index state) r → RefusesEncoded layout chunks state r

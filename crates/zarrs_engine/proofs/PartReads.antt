@@ -10,7 +10,8 @@ use Rattle.std.proofs.lemmas.List.{get_or-replicate, length-replicate}
 use Rattle.std.proofs.lemmas.Slice.Eq.{bytes_eq-Decides}
 use Rattle.zarrs_subset.specs.Boxes.{offset_by, overlap_extents, overlap_start, position_count, zip_with}
 use Rattle.zarrs_subset.specs.Regions.{Box, IsLong, Holds, LiesInShape, box_from, overlap_of, seen_from, shifted_box, LiesInBox}
-use Rattle.zarrs_subset.proofs.Overlaps.{in_box-empty, length-zip_with}
+use Rattle.zarrs_subset.proofs.Counts.{count_some}
+use Rattle.zarrs_subset.proofs.Overlaps.{AllSome, in_box-empty, length-zip_with}
 use Rattle.zarrs_subset.proofs.Parts.{zip_with-at}
 use Rattle.zarrs_subset.proofs.Shifts.{part_in_chunk}
 use Rattle.zarrs_chunk_grid.specs.Grids.{box_at, has_box}
@@ -144,9 +145,10 @@ overlap_within region chunk long chunk_long lies =
     ap (λ s. record { start = s; shape = overlap_extents region.start region.shape chunk.start chunk.shape }) start ∙ ap (λ x. record { start = region.start; shape = x }) extents
 
 -- such a region is all of what is shared, and its part is the region, seen from the corner of the chunk
-pub alone_shared : (region chunk part : Box) → IsLong region → IsLong chunk → LiesInBox region chunk → part ≡ seen_from region chunk.start → AreShared region chunk region part
-alone_shared region chunk part long chunk_long lies seen =
+pub alone_shared : (region chunk part : Box) → IsLong region → IsLong chunk → LiesInBox region chunk → part ≡ seen_from region chunk.start → 0 < position_count region.shape → AreShared region chunk region part
+alone_shared region chunk part long chunk_long lies seen some =
     subst (λ (b : Box). AreShared region chunk region b) (sym seen) (record {
+      some = some;
       shared_is = sym (overlap_within region chunk long chunk_long lies);
       part_is = refl;
       in_region = record {
@@ -351,10 +353,11 @@ module _ (layout : Layout) (lawful : IsLawful layout) (index : List ℕ) (has : 
   region_absent absent held = read_absent layout lawful region index state has held absent
 
   -- what the chunk has of it was decoded
-  pub region_decoded : (made : ArrayData) → DecodesStored layout index part state made → HasRead layout region (index ∷ []) state made
-  region_decoded made decodes =
+  pub region_decoded : AllSome part.shape → (made : ArrayData) → DecodesStored layout index part state made → HasRead layout region (index ∷ []) state made
+  region_decoded full made decodes =
+      let some = count_some region.shape (subst AllSome same_shape full) in
       read_alone layout lawful region index state has is.long is.lies.same_length region part is.long
-      (alone_shared region (box_at layout.grid index) part is.long (box_long layout.grid index) is.lies is.seen) refl is.proper made decodes
+      (alone_shared region (box_at layout.grid index) part is.long (box_long layout.grid index) is.lies is.seen some) refl is.proper made decodes
 
   -- all of it is fill
   pub empty_filled : SomeIndex part.shape (λ k. slice_index part.shape k ≡ 0) → (position : List ℕ) → Holds region position → content layout (value_at state) position ≡ Some layout.fill

@@ -150,4 +150,4 @@ module _ (layout : Layout) (lawful : IsLawful layout) (keep : Bool) (region : Bo
   -- the chunk cannot be read
   pub read_fails : (r : Refusal) → RefusesChunkRead layout (length_refusal layout index) true index state r → RefusesPart layout keep region held index 0 state r
   read_fails =
-      unread_why layout index state has fit (RefusesPart layout keep region held index 0 state) tt (λ broken. (refl, fit, inl (part, broken))) fill_fails (λ refuses. inl (refl, part, refuses))
+      unread_why layout index state has fit (RefusesPart layout keep region held index 0 state) tt (λ broken. (refl, fit, inl (part, broken))) fill_fails (λ refuses. inl (refl, fit, part, refuses))

@@ -19,6 +19,10 @@ pub record ReadsValue (layout : Layout) (index : List ℕ) (state : StoreState) 
 abbrev pub stored_values : Layout → StoreState → List (List ℕ) → List (Option (List ℕ))
 stored_values layout state indices = map (λ index. value_at state (layout.key index)) indices
 
+-- the store refuses none of the keys of these chunks
+abbrev pub ReadsKeys : Layout → List (List ℕ) → StoreState → Type 0
+ReadsKeys layout chunks state = (index : List ℕ) → Contains chunks index → key_refusal layout index state ≡ None
+
 -- The bytes of these chunks are not returned: there are more chunks than a `u64` counts, the store refuses to read the
 -- key of one of them, or out of memory.
 abbrev pub RefusesEncoded : Layout → List (List ℕ) → StoreState → Refusal → Type 0

@@ -17,7 +17,7 @@ use Rattle.zarrs_data_type_bytes.specs.declared.array_bytes.ArrayBytes.{ArrayByt
 use Rattle.zarrs_data_type.specs.ArrayData.{ArrayData, data_of}
 use Rattle.zarrs_chunk_grid.specs.Grids.{box_at}
 use Rattle.zarrs_engine_calls.specs.ArgumentRefusals.{chunk_refusal, dimensions_refusal, part_refusal, range_refusal, region_refusal}
-use Rattle.zarrs_engine_calls.specs.ChunkBoxes.{chunks_met, is_empty, part_box}
+use Rattle.zarrs_engine_calls.specs.ChunkBoxes.{chunks_met, is_empty, is_whole_of, part_box}
 use Rattle.zarrs_engine_calls.specs.Step.{RetrievesChunks, RefusesRetrieveChunks, RetrievesPart, RefusesRetrievePart, RetrievesRegion, RefusesRetrieveRegion}
 use Rattle.zarrs_engine_calls.specs.Step.{StoresChunks, RefusesStoreChunks, StoresPart, RefusesStorePart, ErasesChunks, RefusesEraseChunks}
 use Rattle.zarrs_engine_calls.specs.Reach.{MayAskChunks, MayAskParts, MayReadPart, MayReadParts}
@@ -184,13 +184,16 @@ module _ {S G K C : Type 0} {g : GridMeaning G} {k : KeyMeaning K} {c : ChainMea
       option_or (dimensions_refusal layout now.shape range) (if is_empty range then None else range_refusal layout range) ≡ None
       → MayAskChunks layout (positions range) now.store
 
-  -- of a part of a chunk, and that it may be asked for, if there is such a chunk and the part lies in it
-  abbrev pub RetrievesPartOrRefuses : (S → StoreState) → List ℕ → Box → Engine S G K C g k c → Result ArrayBytes ArrayError → Type 0
-  RetrievesPartOrRefuses state index part engine =
-      let layout = layout_of engine in
-      let store = store_of state engine in
-      Reads (λ held. RetrievesPart layout index part held store) (λ r. RefusesRetrievePart layout index part r store)
+  -- of a part of a chunk: its cells are returned, or the read is refused; if the part is the whole chunk, it is where the store
+  -- refuses the key
+  pub record RetrievesPartOrRefuses (state : S → StoreState) (index : List ℕ) (part : Box)
+      (engine : Engine S G K C g k c) (result : Result ArrayBytes ArrayError) : Type 0 where
+    pub cells : IfOk result (λ made. RetrievesPart (layout_of engine) index part (data_of made) (store_of state engine))
+    pub refused : IfErr result (λ e. RefusesRetrievePart (layout_of engine) index part (refusal_of e) (store_of state engine))
+    pub refusing : is_whole_of (box_at (layout_of engine).grid index).shape part ≡ true
+        → (store_of state engine).refuses ((layout_of engine).key index) ≡ true → IsErr result
 
+  -- the store may be asked for a part of a chunk, if there is such a chunk and the part lies in it
   abbrev pub MayRetrievePart : (S → StoreState) → List ℕ → Box → Engine S G K C g k c → Type 0
   MayRetrievePart state index part engine =
       let layout = layout_of engine in
@@ -216,11 +219,13 @@ module _ {S G K C : Type 0} {g : GridMeaning G} {k : KeyMeaning K} {c : ChainMea
   PatchesPartOrRefuses state keep asked index part held old =
       Writes refusal_of state (PatchesPart (layout_of old) keep asked index part held) (RefusesPatchPart (layout_of old) keep asked index part held) old
 
-  -- a part of a chunk that an encoder writes
-  abbrev pub EncodesPartOrRefuses : (S → StoreState) → Bool → List ℕ → Box → ArrayData
-      → Engine S G K C g k c → Engine S G K C g k c → Result (Unit {0}) ArrayError → Type 0
-  EncodesPartOrRefuses state keep index part held old =
-      Writes refusal_of state (EncodesPart (layout_of old) keep index part held) (RefusesEncodePart (layout_of old) keep index part held) old
+  -- a part of a chunk that an encoder writes: it is written, or refused, as it is where the store refuses the key of the chunk
+  pub record EncodesPartOrRefuses (state : S → StoreState) (keep : Bool) (index : List ℕ) (part : Box) (held : ArrayData)
+      (old new : Engine S G K C g k c) (result : Result (Unit {0}) ArrayError) : Type 0 where
+    pub done : OnOk result (EncodesPart (layout_of old) keep index part held (store_of state old) (store_of state new))
+    pub refused : IfErr result (λ e. RefusesEncodePart (layout_of old) keep index part held (refusal_of e) (store_of state old) (store_of state new))
+    pub refusing : (store_of state old).refuses ((layout_of old).key index) ≡ true → IsErr result
+    pub layout_kept : KeepsLayout old new
 
   -- a store over a part of a chunk with these options: the whole chunk is stored if no part is written by itself
   pub record StoresPartAs (state : S → StoreState) (options : CodecOptions) (index : List ℕ) (part : Box) (held : ArrayData)

@@ -1,5 +1,5 @@
 //! Arrays that are compared by the bytes of their chunks.
-ghost use Rattle.std.specs.Prelude.{◌≡◌, ◌↔◌, ◌⊎◌, IfOk, IfErr, IsTrue, length};
+ghost use Rattle.std.specs.Prelude.{◌≡◌, ◌↔◌, ◌⊎◌, IfOk, IfErr, OnOk, IsTrue, None, length};
 ghost use Rattle.zarrs_subset.specs.Regions.{box_of, positions};
 ghost use Rattle.zarrs_engine_calls.specs.Content.{value_at};
 ghost use Rattle.zarrs_engine_calls.specs.Reach.{MayAskChunk, MayAskChunks};
@@ -90,6 +90,10 @@ fn chunk_equal<
     ensures equal { IfOk result (λ equal. IsTrue equal
         ↔ (value_at (store_of S1.state a.now) ((layout_of a.now).key chunk_indices.now)
         ≡ value_at (store_of S2.state b.now) ((layout_of b.now).key chunk_indices.now))) }
+    ensures asked_a { OnOk result (key_refusal (layout_of a.now) chunk_indices.now
+        (store_of S1.state a.now) ≡ None) }
+    ensures asked_b { OnOk result (key_refusal (layout_of b.now) chunk_indices.now
+        (store_of S2.state b.now) ≡ None) }
     ensures refused { IfErr result (λ e.
         RefusesBy (key_refusal (layout_of a.now) chunk_indices.now (store_of S1.state a.now))
         (refusal_of e)

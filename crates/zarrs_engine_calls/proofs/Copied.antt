@@ -127,7 +127,6 @@ module _ (layout : Layout) (was_a now_a was_b : StoreState) where
     values = copied layout.key (value_at now_a) (take done chunks) was_b.values;
     calls = was_b.calls + done + failed;
     failures = was_b.failures + failed;
-    refuses = now_a.refuses;
   }
 
   front_copied : (changed_a changed_b : List (List ℕ) → Type 0) (chunks : List (List ℕ)) (done failed : ℕ) → Front Makes changed_a chunks done failed was_a now_a
@@ -271,7 +270,7 @@ module _ (layout : Layout) (lawful : IsLawful layout) (was_a now_a was_b now_b :
 -- a refused store of a chunk, in a state that agrees at its key if the region covers a part of it
 module _ (layout : Layout) (lawful : IsLawful layout) (keep : Bool) (region : Box) (held : ArrayData) (index : List ℕ) (failed : ℕ) (x y : StoreState)
     (has : has_box layout.grid index ≡ true) (calls : y.calls ≡ x.calls)
-    (same : IsPart layout region index → AgreeAt layout x y index) (refuses : y.refuses (layout.key index) ≡ x.refuses (layout.key index)) where
+    (same : IsPart layout region index → AgreeAt layout x y index) where
   cell_late : (position : List ℕ) → Holds (box_at layout.grid index) position → in_box region position ≡ false
       → content layout (value_at y) position ≡ content layout (value_at x) position
   cell_late position holds out =
@@ -302,7 +301,7 @@ module _ (layout : Layout) (lawful : IsLawful layout) (keep : Bool) (region : Bo
   fails_late (inr last) = inr (calls ∙ last)
 
   part_late : (r : Refusal) → RefusesPart layout keep region held index failed x r → RefusesPart layout keep region held index failed y r
-  part_late refusal.storage (inl (none, part, is)) = inl (none, part, refuses ∙ is)
+  part_late refusal.storage (inl (none, small, part, is)) = inl (none, small, part, (same part).refuses ∙ is)
   part_late refusal.storage (inr (small, such, fails)) = inr (small, refused_as None such, fails_late fails)
   part_late refusal.codec (none, small, inl (part, bad)) = (none, small, inl (part, broken layout lawful x y index (same part) bad))
   part_late refusal.codec (none, small, inr such) = (none, small, inr (refused_as (Some refusal.codec) such))
@@ -443,7 +442,7 @@ module _ (layout : Layout) (lawful : IsLawful layout) (keep : Bool) (chunks : Li
 
     store_refused : (first : Option Refusal) (r : Refusal)
         → (first ≡ None → (index : List ℕ) → Contains chunks index → has_box layout.grid index ≡ true → IsPart layout region index
-        → value_at b (layout.key index) ≡ value_at a (layout.key index))
+        → AgreeAt layout a b index)
         → (first ≡ None → (index : List ℕ) → Contains chunks index → has_box layout.grid index ≡ true)
         → RefusesStore layout keep first region held chunks r a now_a → Other (RefusesStore layout keep first region held chunks r b)
     store_refused first r agree boxes s =
@@ -454,7 +453,7 @@ module _ (layout : Layout) (lawful : IsLawful layout) (keep : Bool) (chunks : Li
           record {
             done = s.done;
             failed = s.failed;
-            front = take_front s.done s.failed (agree_in first _ (λ x n. RefusesPart layout keep region held x n now_a r) region s.done s.failed s.cause agree) s.front;
+            front = take_front s.done s.failed (agree_in first _ (λ x n. RefusesPart layout keep region held x n now_a r) region s.done s.failed s.cause (λ none i among has part. (agree none i among has part).values)) s.front;
             below = s.below;
             one = s.one;
             counted = λ some is. s.counted some (sym same ∙ is);
@@ -470,9 +469,9 @@ module _ (layout : Layout) (lawful : IsLawful layout) (keep : Bool) (chunks : Li
                       why.0,
                       part_late layout lawful keep region held index s.failed now_a new has same
                           (λ part. record {
-                            values = elim (alike (layout.key index)) [ inl is ↦ is | inr (x, y) ↦ y ∙ agree why.0 index among has part ∙ sym x ];
-                            refuses = refl;
-                          }) refl r why.1,
+                            values = elim (alike (layout.key index)) [ inl is ↦ is | inr (x, y) ↦ y ∙ (agree why.0 index among has part).values ∙ sym x ];
+                            refuses = (agree why.0 index among has part).refuses ∙ sym (s.front.makes.reach.refuses (layout.key index));
+                          }) r why.1,
                     ),
                   )
             ];
@@ -482,12 +481,12 @@ module _ (layout : Layout) (lawful : IsLawful layout) (keep : Bool) (chunks : Li
 
     store_depends : (shape : List ℕ) (first : Option Refusal) (ended : Outcome)
         → (first ≡ None → (index : List ℕ) → Contains chunks index → has_box layout.grid index ≡ true → IsPart layout region index
-        → value_at b (layout.key index) ≡ value_at a (layout.key index))
+        → AgreeAt layout a b index)
         → (first ≡ None → (index : List ℕ) → Contains chunks index → has_box layout.grid index ≡ true)
         → (first ≡ None → (position : List ℕ) → Holds region position → Contains chunks (index_at layout.grid position))
         → ActOutcome layout keep shape first (store region held chunks) ended a now_a → Other (ActOutcome layout keep shape first (store region held chunks) ended b)
     store_depends shape first outcome.done agree boxes meet s =
-        let o = store_done (agree s.0) (λ position holds covered. meet s.0 position holds) s.1 in (o.0, (s.0, o.1), o.2)
+        let o = store_done (λ i among has part. (agree s.0 i among has part).values) (λ position holds covered. meet s.0 position holds) s.1 in (o.0, (s.0, o.1), o.2)
     store_depends shape first (outcome.refused r) agree boxes meet s = store_refused first r agree boxes s
     store_depends shape first ended agree boxes meet s = absurd s
 
@@ -541,7 +540,7 @@ module _ (layout : Layout) (lawful : IsLawful layout) (keep : Bool) (wanted inde
   )
 
   kept_late : keeps_some layout.grid wanted index ≡ true → (r : Refusal) → RefusesKeptCut layout keep wanted index failed x r → RefusesKeptCut layout keep wanted index failed y r
-  kept_late kept refusal.storage (inl (none, is)) = inl (none, (same kept).refuses ∙ is)
+  kept_late kept refusal.storage (inl (none, small, is)) = inl (none, small, (same kept).refuses ∙ is)
   kept_late kept refusal.storage (inr (small, such, inl one)) = inr (small, cut_as kept None such, inl one)
   kept_late kept refusal.storage (inr (small, such, inr last)) = inr (small, cut_as kept None such, inr (calls ∙ last))
   kept_late kept refusal.codec (none, small, inl bad) = (none, small, inl (broken layout lawful x y index (same kept) bad))
@@ -632,7 +631,7 @@ module _ (layout : Layout) (lawful : IsLawful layout) (keep : Bool) (shape wante
                     cut_late layout lawful keep wanted index s.failed now_a new (cut_boxed layout.grid shape wanted index among) same
                         (λ kept. record {
                           values = elim (alike (layout.key index)) [ inl is ↦ is | inr (x, y) ↦ y ∙ (agree why.0 index among kept).values ∙ sym x ];
-                          refuses = refl;
+                          refuses = (agree why.0 index among kept).refuses ∙ sym (s.front.makes.reach.refuses (layout.key index));
                         }) r why.1,
                   ),
                 )
@@ -725,7 +724,7 @@ module _ (layout : Layout) (lawful : IsLawful layout) (keep : Bool) (index : Lis
                     why.0,
                     subst (λ k. RefusesCompactionOf layout k s.failed new r) (sym is) (compact_late s.failed r new same (record {
                       values = elim (alike (layout.key index)) [ inl same_value ↦ same_value | inr (x, y) ↦ y ∙ agree.values ∙ sym x ];
-                      refuses = refl;
+                      refuses = agree.refuses ∙ sym (s.front.makes.reach.refuses (layout.key index));
                     }) (subst (λ k. RefusesCompactionOf layout k s.failed now_a r) is why.1)),
                   ),
                 )
@@ -853,7 +852,7 @@ writes_depend layout lawful keep (call.StoreArraySubset region held) reply a b n
     let takes : first ≡ None → region_refusal layout b.shape box ≡ None = λ none.
     (first_part (region_refusal layout b.shape box) (region_data_refusal layout box (data_of held)) none).0 in
     let o = store_depends layout lawful keep (chunks_met layout.grid box) a.store new_a.store b.store agree.calls box (data_of held) b.shape first (outcome_of reply)
-    (λ none j among there part. (agree.reach (subst (λ shape. region_refusal layout shape box ≡ None) agree.shape (takes none)) j (box_is_there layout.grid j there).long (among, part)).values)
+    (λ none j among there part. agree.reach (subst (λ shape. region_refusal layout shape box ≡ None) agree.shape (takes none)) j (box_is_there layout.grid j there).long (among, part))
     (λ none. region_boxed layout lawful b.shape box region.same_length (takes none))
     (λ none. region_meets layout lawful b.shape box region.same_length (takes none))
     (moved layout keep (call.StoreArraySubset region held) (outcome_of reply) a.shape b.shape a.store new_a.store agree.shape s.1) in
@@ -882,8 +881,8 @@ writes_depend layout lawful keep (call.StoreChunkSubset index part held) reply a
     let first = store_part_refusal layout i box (data_of held) in
     let parts = λ (none : first ≡ None). stored_part layout i box (data_of held) none in
     let o = store_depends layout lawful keep (i ∷ []) a.store new_a.store b.store agree.calls (part_box (box_at layout.grid i) box) (data_of held) b.shape first (outcome_of reply)
-    (λ none j among there part. (agree.reach (located_store layout i box (data_of held) none) j (box_is_there layout.grid j there).long
-    (only_member i j among, part)).values)
+    (λ none j among there part. agree.reach (located_store layout i box (data_of held) none) j (box_is_there layout.grid j there).long
+    (only_member i j among, part))
     (λ none. one_boxed layout i (parts none).0)
     (λ none. part_meets layout lawful i box (parts none).0 (parts none).1)
     (moved layout keep (call.StoreChunkSubset index part held) (outcome_of reply) a.shape b.shape a.store new_a.store agree.shape s.1) in

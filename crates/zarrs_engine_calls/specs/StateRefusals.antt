@@ -74,7 +74,8 @@ CallFails failed new = (failed ≡ 1) ⊎ (new.calls ≡ last_call)
 -- writing call failed (E7); it does not decode, or the chain takes no such chunk (E4); a size (E8); out of memory (E9).
 abbrev pub RefusesPart : Layout → Bool → Box → ArrayData → List ℕ → ℕ → StoreState → Refusal → Type 0
 RefusesPart layout keep region held index failed new refusal.storage =
-    ((failed ≡ 0) × IsPart layout region index × (new.refuses (layout.key index) ≡ true))
+    ((failed ≡ 0) × (is_too_large layout (box_at layout.grid index).shape ≡ false) × IsPart layout region index
+    × (new.refuses (layout.key index) ≡ true))
     ⊎ ((is_too_large layout (box_at layout.grid index).shape ≡ false) × IsRefusedAs layout keep region held index new None × CallFails failed new)
 RefusesPart layout keep region held index failed new refusal.codec =
     (failed ≡ 0) × (is_too_large layout (box_at layout.grid index).shape ≡ false)
@@ -116,7 +117,7 @@ IsLargeFilling layout shape box = (k : ℕ) × (k < length shape) × (fill_refus
 -- bytes (E8); out of memory (E9).
 abbrev pub RefusesKeptCut : Layout → Bool → List ℕ → List ℕ → ℕ → StoreState → Refusal → Type 0
 RefusesKeptCut layout keep shape index failed new refusal.storage =
-    ((failed ≡ 0) × (new.refuses (layout.key index) ≡ true))
+    ((failed ≡ 0) × (is_too_large layout (box_at layout.grid index).shape ≡ false) × (new.refuses (layout.key index) ≡ true))
     ⊎ ((is_too_large layout (box_at layout.grid index).shape ≡ false) × IsCutAs layout keep shape index new None × CallFails failed new)
 RefusesKeptCut layout keep shape index failed new refusal.codec =
     (failed ≡ 0) × (is_too_large layout (box_at layout.grid index).shape ≡ false)

@@ -2,7 +2,7 @@
 use Rattle.std.proofs.Common.{◌≡◌, zero, suc, ℕ, ◌+◌, ◌-◌, ◌*◌, ◌<◌, ◌≤◌, true, false, Bool, List, [], ◌∷◌, ◌++◌, not, ◌&&◌}
 use Rattle.std.proofs.Common.{length, take, drop, slice_index, slice_set, replicate, refl, sym, ap, subst, ◌∙◌, inl, inr, arith, Option, Some, None, IfSome, IfNone, MatchOption, SomeIndex, unwrap_or}
 use Rattle.std.proofs.Math.Nat.{add-mul}
-use Rattle.std.specs.Bool.{OnTrue}
+use Rattle.std.specs.Bool.{OnFalse, OnTrue}
 use borrow.Rule.Slice.PartMut.{mid_of, put_mid, same_len_mid}
 use Rattle.std.proofs.lemmas.Bool.{cases_Bool, cases_eq, cases_lt, false≢true}
 use Rattle.std.proofs.lemmas.List.{append-nil, drop_all, get_or-replicate, get_or_append_left, get_or_push, length_push, length-append, length-drop, length-replicate, length-take, length-take-le}
@@ -303,6 +303,10 @@ module _ (shape p : List ℕ) (inside : is_below shape p ≡ true) where
   pub all_last : (n : ℕ) (q : List ℕ) → n ≡ 0 → IsBackFrom shape p n q → place_in (box_at_origin shape) p + 1 ≡ position_count shape
   all_last n q none h = place_in-last (box_at_origin shape) p (origin_long shape) inside (λ k below. h.ended k (omega arith) below)
 
+  pub all_first : (n : ℕ) (q : List ℕ) → n ≡ 0 → IsBackFrom shape p n q → place_in (box_at_origin shape) q ≡ 0
+  all_first n q none h =
+      ap (place_in (box_at_origin shape)) (h.reset ∙ ap (reset_from start p) none) ∙ place-start (replicate (length shape) 0) shape (origin_long shape)
+
 -- ---- a whole walk
 
 pub next_then : (found : Bool) (old mid new : ℕ) → OnTrue found (mid ≡ old + 1) → mid ≤ new → OnTrue found (old < new)
@@ -312,6 +316,10 @@ next_then false old mid new is less = tt
 pub passes_then : (shape whole : List ℕ) (found : Bool) (old mid new : ℕ) → OnTrue found (mid ≡ old + 1) → PassesBelow shape whole mid new → OnTrue found (PassesBelow shape whole (old + 1) new)
 passes_then shape whole true old mid new is h = subst (λ n. PassesBelow shape whole n new) is h
 passes_then shape whole false old mid new is h = tt
+
+pub first_then : (shape whole : List ℕ) (found : Bool) (mid new : ℕ) → OnFalse found (mid ≡ 0) → PassesBelow shape whole mid new → OnFalse found (PassesBelow shape whole 0 new)
+first_then shape whole true mid new is h = tt
+first_then shape whole false mid new is h = subst (λ n. PassesBelow shape whole n new) is h
 
 pub passes_nothing : (shape whole : List ℕ) (n : ℕ) → PassesBelow shape whole n n
 passes_nothing shape whole n = λ position holds from upto. absurd (omega arith)

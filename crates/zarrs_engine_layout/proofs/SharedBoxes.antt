@@ -4,6 +4,7 @@ use Rattle.std.specs.Prelude.{slice_index}
 use Rattle.zarrs_subset.specs.Regions.{Box, IsLong, LiesInShape, overlap_of, seen_from, LiesInBox}
 use Rattle.zarrs_subset.proofs.Overlaps.{AllSome, length-overlap_extents, length-zip_with}
 use Rattle.zarrs_subset.proofs.Parts.{overlap_extents-at, zip_with-at}
+use Rattle.zarrs_subset.proofs.Counts.{count_some}
 use Rattle.zarrs_subset.proofs.Inside.{count_inside}
 use Rattle.zarrs_engine_layout.specs.Shared.{AreShared}
 
@@ -80,6 +81,7 @@ module _ (region chunk : Box) (long : IsLong region) (chunk_long : IsLong chunk)
 
     pub are_shared : AreShared region chunk shared (seen_from shared chunk.start)
     are_shared = record {
+      some = count_some shared.shape full;
       shared_is = refl;
       part_is = refl;
       in_region = in_region;

@@ -1,5 +1,5 @@
 -- What a region and the box of a chunk have in common.
-use Rattle.std.specs.Prelude.{◌≡◌, ℕ, ◌≤◌, false, List}
+use Rattle.std.specs.Prelude.{◌≡◌, ℕ, ◌<◌, ◌≤◌, false, List}
 use Rattle.zarrs_subset.specs.Boxes.{position_count}
 use Rattle.zarrs_subset.specs.Regions.{Box, Holds, LiesInShape, in_box, overlap_of, seen_from, shifted_box, LiesInBox}
 
@@ -9,6 +9,7 @@ AreApart region chunk = (position : List ℕ) → Holds region position → in_b
 
 -- some position lies in both: `shared` is what they share, and `part` the same box, seen from the corner of the chunk
 pub record AreShared (region chunk shared part : Box) : Type 0 where
+  pub some : 0 < position_count shared.shape
   pub shared_is : shared ≡ overlap_of region chunk
   pub part_is : part ≡ seen_from shared chunk.start
   pub in_region : LiesInBox shared region

@@ -83,6 +83,8 @@ impl CutWalk {
             (walk_whole self.old) (walk_number self.old + 1) (walk_number self.new)) }
         ensures last { OnFalse result (walk_number self.old + 1
             ≡ length (positions (walk_box self.old))) }
+        ensures first { OnFalse result (PassesBelow (walk_box self.old).shape
+            (walk_whole self.old) 0 (walk_number self.new)) }
     {
         advance(&mut self.current, &self.shape, &self.whole, self.axis)
     }
@@ -135,6 +137,7 @@ fn step(position: &mut [u64], shape: &[u64]) -> bool
         ≡ place_in (box_at_origin shape.now) position.old + 1) }
     ensures last { OnFalse result (place_in (box_at_origin shape.now) position.old + 1
         ≡ position_count shape.now) }
+    ensures first { OnFalse result (place_in (box_at_origin shape.now) position.new ≡ 0) }
 {
     let mut axis = shape.len();
     while axis > 0 {
@@ -185,6 +188,8 @@ fn advance(position: &mut [u64], shape: &[u64], whole: &[u64], axis: usize) -> b
         (place_in (box_at_origin shape.now) position.new)) }
     ensures last { OnFalse result (place_in (box_at_origin shape.now) position.old + 1
         ≡ position_count shape.now) }
+    ensures first { OnFalse result (PassesBelow shape.now whole.now 0
+        (place_in (box_at_origin shape.now) position.new)) }
 {
     let found = step(position, shape);
     skip(position, shape, whole, axis);

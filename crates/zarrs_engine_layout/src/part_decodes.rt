@@ -10,7 +10,7 @@ use zarrs_keys::ChunkKeyEncodingTraits;
 use zarrs_subset::ArraySubset;
 
 impl<G: ChunkGridTraits, K: ChunkKeyEncodingTraits, C: ChainTraits> ArrayLayout<G, K, C> {
-    ghost use Rattle.std.specs.Prelude.{◌≡◌, ◌<◌, ℕ, true, false, IfOk, IfErr, OnOk};
+    ghost use Rattle.std.specs.Prelude.{◌≡◌, ◌<◌, ℕ, true, false, IfOk, IfErr, IsSome, OnOk};
     ghost use Rattle.zarrs_subset.specs.Regions.{box_at_origin, box_of, LiesInShape};
     ghost use Rattle.zarrs_data_type.specs.ArrayData.{data_of};
     ghost use Rattle.zarrs_data_type.specs.States.{KeepsTarget, data_of_target};
@@ -26,9 +26,9 @@ impl<G: ChunkGridTraits, K: ChunkKeyEncodingTraits, C: ChainTraits> ArrayLayout<
     /// the corner of the chunk. No other bytes are read than those that the part needs.
     ///
     /// # Errors
-    /// One of these: E4 if the bytes do not decode, though a part of them may; E7 if the source refuses; E8 if what the
-    /// chain decodes whole for the part, the chunk or a subchunk that the part meets, has more bytes than a `usize`
-    /// counts, or so has its fill where its bytes leave out cells. E9 may come at any time.
+    /// One of these: E4 if the bytes do not decode, though a part of them may, unless it is the whole chunk; E7 if the
+    /// source refuses; E8 if what the chain decodes whole for the part, the chunk or a subchunk that the part meets, has
+    /// more bytes than a `usize` counts, or so has its fill where its bytes leave out cells. E9 may come at any time.
     pub fn decode_part<B: ByteSource>(
         &self,
         alloc: Global,
@@ -44,6 +44,9 @@ impl<G: ChunkGridTraits, K: ChunkKeyEncodingTraits, C: ChainTraits> ArrayLayout<
         ensures cells { IfOk result (λ made. DecodesPart (layout_meaning self.now).kind
             shape.now (box_of part.now) (decoded_cells (layout_meaning self.now)
             (box_at_origin shape.now) (B.bytes source.now)) (data_of made)) }
+        ensures whole { (box_of part.now).shape ≡ shape.now → IfOk result (λ _. IsSome
+            (decoded_cells (layout_meaning self.now) (box_at_origin shape.now)
+            (B.bytes source.now))) }
         ensures refused { IfErr result (λ e. RefusesPartBytes (layout_meaning self.now)
             (box_at_origin shape.now) (box_of part.now) (B.bytes source.now)
             (B.refuses source.now) (refusal_of e)) }
@@ -88,6 +91,9 @@ impl<G: ChunkGridTraits, K: ChunkKeyEncodingTraits, C: ChainTraits> ArrayLayout<
             shape.now (box_of part.now) (decoded_cells (layout_meaning self.now)
             (box_at_origin shape.now) (B.bytes source.now)) (parent_box target.old)
             (target_box target.old) (data_of_target target.new)) }
+        ensures whole { (box_of part.now).shape ≡ shape.now → OnOk result (IsSome
+            (decoded_cells (layout_meaning self.now) (box_at_origin shape.now)
+            (B.bytes source.now))) }
         ensures refused { IfErr result (λ e. RefusesPartBytes (layout_meaning self.now)
             (box_at_origin shape.now) (box_of part.now) (B.bytes source.now)
             (B.refuses source.now) (refusal_of e)) }

@@ -4,3 +4,4 @@ pub mod Document
 pub mod View
 pub mod Reading
 pub mod Refusals
+pub mod Reasons

@@ -1,12 +1,14 @@
 //! Steps on the members of an object.
-ghost use Rattle.std.specs.Prelude.{◌≡◌, option_map, option_and_then, Some, IfOk, IfErr, OnOk, is_none};
+ghost use Rattle.std.specs.Prelude.{◌≡◌, codes, option_map, option_and_then, Some, IfOk, IfErr};
+ghost use Rattle.std.specs.Prelude.{OnOk, OnErr, is_none};
 ghost use Rattle.serde_json.specs.Find.{get_member, as_array, as_object};
 ghost use Rattle.serde_json.specs.View.{view, items_view, members_view};
 ghost use Rattle.zarrs_metadata_parts.specs.Members.{nonempty};
 ghost use Rattle.zarrs_metadata_parts.specs.Lists.{numbers_of};
 ghost use Rattle.zarrs_metadata_parts.specs.FillValue.{fill_data};
 ghost use Rattle.zarrs_metadata_v3.specs.Members.{reads_as_text, reads_as_number, members_in, object_data, put_some, value_said};
-ghost use Rattle.zarrs_metadata_v3.specs.Refusals.{Reads, RefusesReading, metadata_error_of};
+ghost use Rattle.zarrs_metadata_v3.specs.Refusals.{Reads, RefusesReading};
+ghost use Rattle.zarrs_metadata_v3.specs.Refusals.{IsMissing, IsWrong, IsUnread, IsFault};
 
 use crate::unread::Unread;
 use serde_json::{Category, Map, Value};
@@ -42,15 +44,16 @@ pub fn member_of<'a>(members: &'a Map<String, Value>, name: &str) -> Option<&'a 
 /// Puts the member in, if there is one, over a member of that name.
 ///
 /// # Errors
-/// `AllocError`: out of memory.
+/// `AllocError`: out of memory. The members stay as they were.
 pub fn put_member(
     members: &mut Map<String, Value>,
     alloc: Global,
     name: &str,
     value: Option<Value>,
 ) -> Result<(), AllocError>
-    ensures { OnOk result (members_view members.new.entries
+    ensures put { OnOk result (members_view members.new.entries
         ≡ put_some name.now (option_map view value) (members_view members.old.entries)) }
+    ensures kept { OnErr result (members.new.entries ≡ members.old.entries) }
 {
     match value {
         Some(value) => serde_json::put(members, alloc, name, value),
@@ -74,14 +77,15 @@ pub fn items_in(member: Option<Value>) -> Option<Vec<Value>>
 /// # Errors
 /// `Missing` if it is not.
 pub fn present(member: Option<Value>, name: &'static str) -> Result<Value, Unread>
-    ensures { Reads view (option_map view member) result }
+    ensures read { Reads view (option_map view member) result }
+    ensures missing { IfErr result (IsMissing name.now) }
 {
     member.ok_or(Unread::Missing(name))
 }
 
 /// Returns what is wrong with a member that does not read.
 pub fn fault(member: &Option<Value>, name: &'static str, is: &'static str) -> Unread
-    ensures { metadata_error_of result ≡ MetadataError.InvalidShape }
+    ensures { IsFault name.now is.now (option_map view member.now) result }
 {
     match member {
         Some(_) => Unread::Wrong(name, is),
@@ -94,7 +98,8 @@ pub fn fault(member: &Option<Value>, name: &'static str, is: &'static str) -> Un
 /// # Errors
 /// `Missing` if there is none.
 pub fn fill_value_in(member: Option<Value>) -> Result<FillValueMetadata, Unread>
-    ensures { Reads fill_data (option_map view member) result }
+    ensures read { Reads fill_data (option_map view member) result }
+    ensures missing { IfErr result (IsMissing (codes "fill_value")) }
 {
     let value = present(member, "fill_value")?;
     Ok(FillValueMetadata::from_value(value))
@@ -105,7 +110,9 @@ pub fn fill_value_in(member: Option<Value>) -> Result<FillValueMetadata, Unread>
 /// # Errors
 /// `Wrong` if it is no object.
 pub fn attributes_in(alloc: Global, member: Option<Value>) -> Result<Map<String, Value>, Unread>
-    ensures { Reads (λ m. members_view m.entries) (members_in (option_map view member)) result }
+    ensures read { Reads (λ m. members_view m.entries) (members_in (option_map view member))
+        result }
+    ensures wrong { IfErr result (IsWrong (codes "attributes")) }
 {
     match member {
         Some(value) => object_of(value).ok_or(Unread::Wrong("attributes", "is no object")),
@@ -158,7 +165,9 @@ pub fn numbers_in(
     member: Option<Value>,
     name: &'static str,
 ) -> Result<Vec<u64>, Unread>
-    ensures { Reads (λ v. v.items) (option_and_then numbers_of (option_map view member)) result }
+    ensures read { Reads (λ v. v.items) (option_and_then numbers_of (option_map view member))
+        result }
+    ensures named { IfErr result (IsUnread name.now (option_map view member)) }
 {
     let value = present(member, name)?;
     numbers(alloc, &value)?.ok_or(Unread::Wrong(name, "is no list of whole numbers below 2^64"))

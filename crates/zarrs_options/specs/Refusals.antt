@@ -1,5 +1,5 @@
 -- Why no array is created, and which refusal comes first.
-use Rattle.std.specs.Prelude.{◌≡◌, ◌⊎◌, ℕ, List, Option, Some, None, Result, Ok, Err, string_bytes}
+use Rattle.std.specs.Prelude.{◌≡◌, ℕ, List, Option, Some, None, Result, Ok, Err, string_bytes}
 use Rattle.serde_json.specs.Data.{Data}
 use Rattle.zarrs_storage.specs.declared.error.StorageError.{StorageError}
 use Rattle.zarrs_storage.specs.declared.error.StorageError.TheVariants as stored
@@ -94,8 +94,6 @@ said_or refusal None = Err refusal
 said_or refusal (Some a) = Ok a
 
 -- a creation is refused: if memory runs out, which may come at any growth; else by the first refusal that is decided
--- (a store that refuses a call says why as it likes, also as if what is at some key could not be read)
 abbrev pub RefusesCreation : {A : Type 0} → Result A CreateRefusal → CreateRefusal → Type 0
 RefusesCreation made out_of_memory = Unit {0}
-RefusesCreation made (unread key) = (made ≡ Err (unread key)) ⊎ (made ≡ Err storage)
 RefusesCreation made other = made ≡ Err other

@@ -1,6 +1,6 @@
 -- What new arrays are.
 use Rattle.std.proofs.Common.{◌≡◌, ◌≢◌, ◌==◌, ℕ, ◌<◌, ◌+◌, true, false, List, [], ◌∷◌, ◌++◌, length, take, get_or}
-use Rattle.std.proofs.Common.{inl, inr, codes, map, Option, Some, Result, Ok, refl, sym, ap, ◌∙◌, subst, arith}
+use Rattle.std.proofs.Common.{codes, map, Option, Some, Result, Ok, refl, sym, ap, ◌∙◌, subst, arith}
 use Rattle.std.specs.List.{list_any}
 use Rattle.std.specs.FinMap as finite
 use Rattle.std.specs.Int.NonZero.{non_zero_u64_get}
@@ -109,8 +109,7 @@ only_memory made a (create_error.ChunkKeyEncodingCreateError plugin.OutOfMemory)
 only_memory made a (create_error.InvalidChunkGridDimensionality grid dimensions) is refused other = absurd (cc (is, refused))
 only_memory made a (create_error.InvalidDimensionNames names dimensions) is refused other = absurd (cc (is, refused))
 only_memory made a (create_error.InvalidSubchunkShape shape) is refused other = absurd (cc (is, refused))
-only_memory made a (create_error.StorageError (stored.InvalidMetadata key text)) is (inl unread) other = absurd (cc (is, unread))
-only_memory made a (create_error.StorageError (stored.InvalidMetadata key text)) is (inr refused) other = absurd (cc (is, refused))
+only_memory made a (create_error.StorageError (stored.InvalidMetadata key text)) is refused other = absurd (cc (is, refused))
 only_memory made a (create_error.StorageError stored.ReadOnly) is refused other = absurd (cc (is, refused))
 only_memory made a (create_error.StorageError stored.InvalidByteRange) is refused other = absurd (cc (is, refused))
 only_memory made a (create_error.StorageError stored.Exhausted) is refused other = absurd (cc (is, refused))

@@ -1,8 +1,8 @@
 //! A builder whose fields remember that there was no memory for them.
-use crate::checks::{must, must_eq, must_want_memory};
+use crate::checks::{are_y_and_x, must, must_eq, must_want_memory};
 use std::alloc::Global;
 use std::process::Abort;
-use zarrs::{Array, DataType, DimensionName, MemoryStore};
+use zarrs::{Array, DataType, MemoryStore};
 use zarrs_builder::ArrayBuilder;
 
 /// A builder of another array than the test wants.
@@ -20,13 +20,6 @@ fn set_fields(alloc: Global, builder: &mut ArrayBuilder) {
         .fill_value(alloc, 7u8)
         .subchunk_shape(alloc, Some([2u64, 2]))
         .dimension_names(alloc, Some(names.iter().copied()));
-}
-
-fn are_y_and_x(names: Option<&[DimensionName]>) -> bool {
-    match names {
-        Some([Some(first), Some(second)]) => first.as_str() == "y" && second.as_str() == "x",
-        _ => false,
-    }
 }
 
 /// The array has what was set.

@@ -9,13 +9,13 @@ use zarrs_storage::{Bytes, ReadableStorageTraits, StorageError, WritableStorageT
 use zarrs_subset::ArraySubsetTraits;
 
 impl<TStorage: ReadableStorageTraits> Array<TStorage> {
-    ghost use Rattle.std.specs.Prelude.{◌≡◌, IfOk, IfErr};
+    ghost use Rattle.std.specs.Prelude.{◌≡◌, IfOk, IfErr, OnOk};
     ghost use Rattle.std.specs.Prelude.{length, map, option_map};
     ghost use Rattle.zarrs_subset.specs.Regions.{positions};
     ghost use Rattle.zarrs_engine_calls.specs.Reach.{MayAskChunk, MayAskChunks};
     ghost use Rattle.zarrs_engine_calls.specs.Content.{value_at};
     ghost use Rattle.zarrs_engine_calls.specs.Refusals.{refusal_of, key_refusal};
-    ghost use Rattle.zarrs_engine.specs.Encoded.{RefusesEncoded, stored_values};
+    ghost use Rattle.zarrs_engine.specs.Encoded.{ReadsKeys, RefusesEncoded, stored_values};
     ghost use Rattle.zarrs.specs.Arrays.{layout_of_array, store_of_array};
     ghost use Rattle.zarrs.specs.Queries.{Answers};
 
@@ -59,6 +59,8 @@ impl<TStorage: ReadableStorageTraits> Array<TStorage> {
         ensures values { IfOk result (λ values. map (option_map (λ v. v.items)) values.items
             ≡ stored_values (layout_of_array self.now) (store_of_array TStorage.state self.now)
             (positions (R.region chunks.now))) }
+        ensures accepted { OnOk result (ReadsKeys (layout_of_array self.now)
+            (positions (R.region chunks.now)) (store_of_array TStorage.state self.now)) }
         ensures refused { IfErr result (λ e. RefusesEncoded (layout_of_array self.now)
             (positions (R.region chunks.now)) (store_of_array TStorage.state self.now)
             (refusal_of e)) }

@@ -1,7 +1,7 @@
 //! Metadata calls: the metadata of an array in its store.
 use super::Array;
 use std::alloc::Global;
-use zarrs_creation::{MetadataPut, erasures_of_metadata, puts_of_metadata, write_refusal};
+use zarrs_creation::{MetadataPut, erasures_of_metadata, puts_of_metadata, store_refusal};
 use zarrs_options::{ArrayMetadataOptions, MetadataEraseVersion};
 use zarrs_storage::{StorageError, WritableStorageTraits};
 
@@ -119,7 +119,7 @@ impl<TStorage: WritableStorageTraits> Array<TStorage> {
     {
         match self.call_store(alloc, put) {
             Ok(()) => Ok(()),
-            Err(error) => Err(write_refusal(error)),
+            Err(error) => Err(store_refusal(error)),
         }
     }
 

@@ -1,7 +1,8 @@
 use Rattle.zarrs_data_type.specs.CellTypes.{chunk_fill, chunk_kind, filling, kind_of, shape_of}
-use Rattle.std.proofs.Common.{vec_len, ◌≡◌, ◌∙◌, ◌+◌, Some, slice_get, length, take, List, ℕ, rules, sym, ap, subst, arith, ◌-◌, ◌*◌, ◌<◌, ◌≤◌, ◌^◌, false, Bool, replicate}
+use Rattle.std.proofs.Common.{vec_len, ◌≡◌, ◌∙◌, ◌+◌, Some, slice_get, length, take, List, ℕ, rules, sym, ap, subst, arith, ◌-◌, ◌*◌, ◌<◌, ◌≤◌, ◌^◌, false, true, refl, Bool, replicate}
 use Rattle.std.proofs.Math.Nat.{mul-le-mul_left}
-use Rattle.std.proofs.lemmas.Bool.{eqb-true}
+use Rattle.std.specs.Prelude.{IsSome}
+use Rattle.std.proofs.lemmas.Bool.{eqb-true, false≢true}
 use Rattle.std.proofs.lemmas.Option.{slice_get_within}
 use Rattle.std.proofs.lemmas.Result.{IfErr-weaker, IfOk-weaker}
 use Rattle.zarrs_data_type.specs.ArrayData.{ArrayData, data_of}
@@ -10,22 +11,24 @@ use Rattle.zarrs_data_type.specs.Cells.{cells}
 use Rattle.zarrs_codec_chain.specs.Chain.{ChainMeaning}
 use Rattle.zarrs_codec.specs.ChainLaws.{chain-lawful}
 use Rattle.zarrs_codec.specs.Chains.{codec_meaning, chain_meaning, inner_chain_of, is_at_start, location_of, subchunk_sizes_of, sharding_meaning}
-use Rattle.zarrs_codec.specs.ShardChunks.{HasParts, RefusesShard, RefusesReads, shard_decoded}
+use Rattle.zarrs_codec.specs.ShardChunks.{DecodesOne, HasParts, RefusesShard, RefusesReads, shard_decoded}
 use Rattle.zarrs_codec.specs.Shardings.{subchunk_meaning}
 use Rattle.zarrs_codec.proofs.PartReads.{alone_refused, is_none, leaf_refused}
 use Rattle.zarrs_codec.proofs.Pieces.{piece_alone, piece_cells, piece_put}
-use Rattle.zarrs_codec.proofs.ShardReads.{large_share, own_refused, parts_decode, piece_of_share, read_places, small_share, subchunks_refused}
+use Rattle.zarrs_codec.proofs.ShardReads.{large_share, own_refused, parts_decode, piece_of_share, read_places, sharded_unfit, small_share, subchunks_refused}
+use Rattle.zarrs_codec.proofs.WholeReads.{absent_decodes, alone_decodes, each_decodes, met_decode, none_decodes, ok_both, shared_decodes, unshared_decodes}
+use Rattle.zarrs_codec.proofs.WholeShards.{alone_some}
 use Rattle.zarrs_codec_optional.specs.ShardingMetadata.{sizes_of}
 use Rattle.zarrs_codec_chain.proofs.Kept.{err_kept}
 use Rattle.zarrs_codec_chain.proofs.OpenShards.{opened}
-use Rattle.zarrs_codec_chain.proofs.ReadSteps.{skip_absent, skip_none}
+use Rattle.zarrs_codec_chain.proofs.ReadSteps.{none_unfound, skip_absent, skip_none}
 use Rattle.zarrs_codec_chain.proofs.SubchunkSteps.{none_read}
-use Rattle.zarrs_codec_chain.proofs.SubchunkWalks.{all_walked, walked_cells, walked_last, walked_more, walked_next}
+use Rattle.zarrs_codec_chain.proofs.SubchunkWalks.{all_walked, among_last, among_next, walked_cells, walked_last, walked_more, walked_next}
 use Rattle.zarrs_codec_chain.specs.OpenShards.{read_of}
 use Rattle.zarrs_codec_chain.specs.Parts.{DecodesPart}
 use Rattle.zarrs_codec_chain.specs.PartRefusals.{RefusesPartDecoding}
 use Rattle.zarrs_codec_chain.specs.Refusals.{IsTooLargeToDecode}
-use Rattle.zarrs_codec_chain.specs.ShardParts.{HasSubchunkParts, IsNoShard, MeetsPart}
+use Rattle.zarrs_codec_chain.specs.ShardParts.{HasSubchunkParts, IsNoShard, MeetsPart, is_among}
 use Rattle.zarrs_codec_chain.specs.ShardReads.{ShardRead, part_places, parts_of, shard_read}
 use Rattle.zarrs_codec_chain.specs.Stored.{MayReadOf, bytes_of, refuses_of}
 use Rattle.zarrs_subset.specs.Boxes.{position_count}
@@ -43,7 +46,7 @@ sharding::ShardingCodec::decode_piece-returns-in_default-clause-none g t c =
     let is = opened c.args.read.now in
     let m : ChainMeaning = chain_meaning (inner_chain_of c.args.self.now) in
     let dec = m.decoded k f r.sub in
-    λ held. skip_none r is k dec f c.args.indices.now held c.in_default.ensures.none
+    λ held. skip_none r is k dec f c.args.indices.now held (none_unfound r is c.args.indices.now c.in_default.ensures.none)
 
 pub sharding::ShardingCodec::decode_piece-returns-in_default-subchunk-clause-none : goal.sharding::ShardingCodec::decode_piece-returns-in_default-subchunk-clause-none
 sharding::ShardingCodec::decode_piece-returns-in_default-subchunk-clause-none g t c =
@@ -69,6 +72,43 @@ sharding::ShardingCodec::decode_piece-returns-in_default-2-clause-none g t c =
     let i = c.args.indices.now in
     let at = c.in-Some.ensures.number in
     λ held. skip_none r is k dec f i held ((rw c.in_default-2.is at c.in_ok-share.ensures.none) i at)
+
+pub sharding::ShardingCodec::decode_piece-returns-in_default-clause-whole : goal.sharding::ShardingCodec::decode_piece-returns-in_default-clause-whole
+sharding::ShardingCodec::decode_piece-returns-in_default-clause-whole g t c = λ all.
+    let r = read_of c.args.read.now in
+    let is = opened c.args.read.now in
+    none_decodes c.args.self.now c.args.cell_type.now r is c.args.indices.now c.in_default.ensures.none
+
+pub sharding::ShardingCodec::decode_piece-returns-in_default-subchunk-clause-whole : goal.sharding::ShardingCodec::decode_piece-returns-in_default-subchunk-clause-whole
+sharding::ShardingCodec::decode_piece-returns-in_default-subchunk-clause-whole g t c = λ all.
+    let r = read_of c.args.read.now in
+    let is = opened c.args.read.now in
+    absent_decodes c.args.self.now c.args.cell_type.now r is c.args.indices.now c.in-Some.number c.in-Some.ensures.number c.in_default-subchunk.ensures.bytes
+
+pub sharding::ShardingCodec::decode_piece-returns-in_default-2-clause-whole : goal.sharding::ShardingCodec::decode_piece-returns-in_default-2-clause-whole
+sharding::ShardingCodec::decode_piece-returns-in_default-2-clause-whole g t c = λ all.
+    let r = read_of c.args.read.now in
+    let is = opened c.args.read.now in
+    let i = c.args.indices.now in
+    unshared_decodes c.args.self.now c.args.cell_type.now r is all i ((rw c.in_default-2.is at c.in_ok-share.ensures.none) i c.in-Some.ensures.number)
+
+pub sharding::ShardingCodec::decode_piece-returns-clause-whole : goal.sharding::ShardingCodec::decode_piece-returns-clause-whole
+sharding::ShardingCodec::decode_piece-returns-clause-whole g t c = λ all.
+    let k = kind_of c.args.cell_type.now in
+    let f = filling c.args.cell_type.now in
+    let r = read_of c.args.read.now in
+    let is = opened c.args.read.now in
+    let m : ChainMeaning = chain_meaning (inner_chain_of c.args.self.now) in
+    let i = c.args.indices.now in
+    let n = c.in-Some.number in
+    let at = c.in-Some.ensures.number in
+    let share = (rw c.in-Some-2.is at c.in_ok-share.ensures.share) i at in
+    let shared = box_of c.in-Some-2.share.shared in
+    let own = box_of c.in-Some-2.share.own in
+    let shape_is : c.subchunk_shape.result.now ≡ r.sub = c.subchunk_shape.ensures in
+    let b = bytes_of c.in-Some-subchunk.stored in
+    shared_decodes c.args.self.now c.args.cell_type.now r is all i n b shared own at share c.in-Some-subchunk.ensures.bytes
+    (λ same. subst (λ (x : List ℕ). IsSome (m.decoded k f x b)) shape_is (c.in_ok-cells.ensures.whole (same ∙ sym shape_is)))
 
 pub sharding::ShardingCodec::decode_piece-subchunk-requires : goal.sharding::ShardingCodec::decode_piece-subchunk-requires
 sharding::ShardingCodec::decode_piece-subchunk-requires g t c =
@@ -177,6 +217,20 @@ pub sharding::ShardingCodec::read_subchunk-returns-in_default-clause-read : goal
 sharding::ShardingCodec::read_subchunk-returns-in_default-clause-read g t c =
     (rw c.in_default.is at c.in_ok-piece.ensures.none) (region_data c.args.held)
 
+pub sharding::ShardingCodec::read_subchunk-returns-clause-whole : goal.sharding::ShardingCodec::read_subchunk-returns-clause-whole
+sharding::ShardingCodec::read_subchunk-returns-clause-whole g t c = λ all. c.in_ok-piece.ensures.whole all
+
+pub sharding::ShardingCodec::read_subchunk-returns-in_default-clause-whole : goal.sharding::ShardingCodec::read_subchunk-returns-in_default-clause-whole
+sharding::ShardingCodec::read_subchunk-returns-in_default-clause-whole g t c = λ all. c.in_ok-piece.ensures.whole all
+
+pub sharding::ShardingCodec::read_subchunks-returns-in_default-2-clause-whole : goal.sharding::ShardingCodec::read_subchunks-returns-in_default-2-clause-whole
+sharding::ShardingCodec::read_subchunks-returns-in_default-2-clause-whole g t c = λ all.
+    let r = read_of c.args.read.now in
+    let is = opened c.args.read.now in
+    let nothing = rw c.in_default-2.is at c.in_ok-walk.ensures.none in
+    met_decode c.args.self.now c.args.cell_type.now r is all (box_of c.args.met.now) c.args.met.now.same_length c.requires.met
+    (λ i among. absurd (false≢true (sym (ap (λ (l : List (List ℕ)). is_among l i) nothing) ∙ among)))
+
 pub sharding::ShardingCodec::read_subchunks-returns-in_default-2-clause-all : goal.sharding::ShardingCodec::read_subchunks-returns-in_default-2-clause-all
 sharding::ShardingCodec::read_subchunks-returns-in_default-2-clause-all g t c =
     let k = kind_of c.args.cell_type.now in
@@ -211,6 +265,8 @@ sharding::ShardingCodec::read_subchunks-loop-walk-init g t c =
       meets = subst (λ (b : Box). MeetsPart r.sub r.part b) (sym same) c.requires.met;
       read =
           subst (λ (n : ℕ). HasSubchunkParts k dec f r.shape r.sub r.part (parts_of r) (take n (positions (walk_box walk))) (region_data c.in_ok-held.held)) (sym first) none;
+      decodes = λ all.
+          subst (λ (n : ℕ). (i : List ℕ) → is_among (take n (positions (walk_box walk))) i ≡ true → DecodesOne c.args.self.now c.args.cell_type.now r i) (sym first) (λ i among. absurd (false≢true among));
     }
 
 pub sharding::ShardingCodec::read_subchunks-loop-walk-smaller : goal.sharding::ShardingCodec::read_subchunks-loop-walk-smaller
@@ -243,6 +299,20 @@ sharding::ShardingCodec::read_subchunks-returns-then-not-advance-clause-all g t 
     (walked_last k dec f r.shape r.sub r.part (parts_of r) chunks (n + 1) _ c.if-not-advance.ensures.last
     (walked_more k dec f r.shape r.sub r.part (parts_of r) chunks n index _ _ at i.read c.in_ok-made.ensures.read)))
 
+pub sharding::ShardingCodec::read_subchunks-returns-then-not-advance-clause-whole : goal.sharding::ShardingCodec::read_subchunks-returns-then-not-advance-clause-whole
+sharding::ShardingCodec::read_subchunks-returns-then-not-advance-clause-whole g t c = λ all.
+    let r = read_of c.args.read.now in
+    let is = opened c.args.read.now in
+    let walk = c.loop-walk.walk in
+    let chunks = positions (walk_box walk) in
+    let i = c.loop-walk.invariant in
+    let n = walk_number walk in
+    let index = c.current.result.now in
+    let at : slice_get chunks n ≡ Some index = c.current.ensures in
+    met_decode c.args.self.now c.args.cell_type.now r is all (walk_box walk) walk.subset.now.same_length i.meets
+    (among_last (DecodesOne c.args.self.now c.args.cell_type.now r) chunks (n + 1) c.if-not-advance.ensures.last
+    (among_next (DecodesOne c.args.self.now c.args.cell_type.now r) chunks n (n + 1) index refl at (i.decodes all) (c.in_ok-made.ensures.whole all)))
+
 pub sharding::ShardingCodec::read_subchunks-loop-walk-preserved : goal.sharding::ShardingCodec::read_subchunks-loop-walk-preserved
 sharding::ShardingCodec::read_subchunks-loop-walk-preserved g t c =
     let k = kind_of c.args.cell_type.now in
@@ -262,6 +332,9 @@ sharding::ShardingCodec::read_subchunks-loop-walk-preserved g t c =
       read =
           subst (λ (b : Box). HasSubchunkParts k dec f r.shape r.sub r.part (parts_of r) (take (walk_number c.advance.new.self) (positions b)) (region_data c.in_ok-made.made)) (sym same)
           (walked_next k dec f r.shape r.sub r.part (parts_of r) chunks n _ index _ _ c.if-not-advance.ensures.next at i.read c.in_ok-made.ensures.read);
+      decodes = λ all.
+          subst (λ (b : Box). (j : List ℕ) → is_among (take (walk_number c.advance.new.self) (positions b)) j ≡ true → DecodesOne c.args.self.now c.args.cell_type.now r j) (sym same)
+          (among_next (DecodesOne c.args.self.now c.args.cell_type.now r) chunks n (walk_number c.advance.new.self) index c.if-not-advance.ensures.next at (i.decodes all) (c.in_ok-made.ensures.whole all));
     }
 
 pub sharding::ShardingCodec::read_subchunks-read_subchunk-requires : goal.sharding::ShardingCodec::read_subchunks-read_subchunk-requires
@@ -297,6 +370,42 @@ sharding::ShardingCodec::read_part-returns-then-eq-clause-all g t c =
     let has = rw c.in-Some.is at c.in_ok-found.ensures.piece in
     piece_alone k dec f r.shape r.sub r.part (parts_of r) c.start.result.now (box_of c.in-Some.piece.shared) (data_of c.in-Some.piece.cells) has (c.eq.ensures.0 c.if-eq.true)
 
+pub sharding::ShardingCodec::read_part-returns-then-eq-clause-whole : goal.sharding::ShardingCodec::read_part-returns-then-eq-clause-whole
+sharding::ShardingCodec::read_part-returns-then-eq-clause-whole g t c = λ all.
+    let r = read_of c.args.read.now in
+    let is = opened c.args.read.now in
+    let has = rw c.in-Some.is at c.in_ok-found.ensures.piece in
+    alone_decodes c.args.self.now c.args.cell_type.now r is all c.start.result.now (box_of c.in-Some.piece.shared) (data_of c.in-Some.piece.cells) has (c.eq.ensures.0 c.if-eq.true) (c.in_ok-found.ensures.whole all)
+
+pub sharding::ShardingCodec::read_all-read_part-requires : goal.sharding::ShardingCodec::read_all-read_part-requires
+sharding::ShardingCodec::read_all-read_part-requires g t c κs within =
+    (first_of (omega (arith, c.decreases), search rules), (search rules, c.requires.size))
+
+pub sharding::ShardingCodec::read_all-returns-then-not-branch-clause-refused : goal.sharding::ShardingCodec::read_all-returns-then-not-branch-clause-refused
+sharding::ShardingCodec::read_all-returns-then-not-branch-clause-refused g t c =
+    let k = kind_of c.args.cell_type.now in
+    let r = read_of c.args.read.now in
+    let is = opened c.args.read.now in
+    let m : ChainMeaning = chain_meaning (inner_chain_of c.args.self.now) in
+    let shape_is : c.subchunk_shape-shape.result.now ≡ r.sub = c.subchunk_shape-shape.ensures in
+    let unfit : m.fits k r.sub ≡ false = ap (m.fits k) (sym shape_is) ∙ sym c.in_ok-fits_chunk.ensures ∙ c.if-not-branch.true in
+    sharded_unfit c.args.self.now c.args.cell_type.now r is unfit
+
+pub sharding::ShardingCodec::read_all-returns-clause-decodes : goal.sharding::ShardingCodec::read_all-returns-clause-decodes
+sharding::ShardingCodec::read_all-returns-clause-decodes g t c =
+    let k = kind_of c.args.cell_type.now in
+    let r = read_of c.args.read.now in
+    let is = opened c.args.read.now in
+    let m : ChainMeaning = chain_meaning (inner_chain_of c.args.self.now) in
+    let shape_is : c.subchunk_shape-shape.result.now ≡ r.sub = c.subchunk_shape-shape.ensures in
+    let fit : m.fits k r.sub ≡ true = ap (m.fits k) (sym shape_is) ∙ sym c.in_ok-fits_chunk.ensures ∙ c.if-not-branch.false in
+    IfOk-weaker c.read_part.result _ _ (λ made each. each_decodes c.args.self.now c.args.cell_type.now r is fit each) (c.read_part.ensures.whole c.requires.whole)
+
+pub sharding::ShardingCodec::read_all-returns-clause-refused : goal.sharding::ShardingCodec::read_all-returns-clause-refused
+sharding::ShardingCodec::read_all-returns-clause-refused g t c =
+    let r = read_of c.args.read.now in
+    IfErr-weaker c.read_part.result _ _ (λ e why. subchunks_refused c.args.self.now c.args.cell_type.now r (opened c.args.read.now) e why) c.read_part.ensures.refused
+
 pub sharding::ShardingCodec::partial_decode_shard-open-requires-clause-may_read : goal.sharding::ShardingCodec::partial_decode_shard-open-requires-clause-may_read
 sharding::ShardingCodec::partial_decode_shard-open-requires-clause-may_read g t c =
     let x = c.args.self.now in
@@ -322,8 +431,8 @@ sharding::ShardingCodec::partial_decode_shard-read_part-requires g t c κs withi
     let small = subst (λ (r : ShardRead). position_count r.part.shape * cell_size (chunk_kind chunk) < 2 ^ 64) (sym read_is) c.requires.size in
     (first_of (omega (arith, c.decreases), search rules), (search rules, small))
 
-pub sharding::ShardingCodec::partial_decode_shard-returns-in-Some-clause-cells : goal.sharding::ShardingCodec::partial_decode_shard-returns-in-Some-clause-cells
-sharding::ShardingCodec::partial_decode_shard-returns-in-Some-clause-cells g t c =
+pub sharding::ShardingCodec::partial_decode_shard-returns-clause-cells : goal.sharding::ShardingCodec::partial_decode_shard-returns-clause-cells
+sharding::ShardingCodec::partial_decode_shard-returns-clause-cells g t c =
     let x = c.args.self.now in
     let stored = c.args.stored.now in
     let chunk = c.args.chunk.now in
@@ -337,8 +446,8 @@ sharding::ShardingCodec::partial_decode_shard-returns-in-Some-clause-cells g t c
     (λ made has. subst (λ (r : ShardRead). DecodesPart (chunk_kind chunk) r.shape r.part (shard_decoded x chunk.cell_type.now r) (data_of made)) read_is (parts_decode x chunk.cell_type.now (read_of read) (opened read) (data_of made) has))
     c.read_part.ensures.all
 
-pub sharding::ShardingCodec::partial_decode_shard-returns-in-Some-clause-refused : goal.sharding::ShardingCodec::partial_decode_shard-returns-in-Some-clause-refused
-sharding::ShardingCodec::partial_decode_shard-returns-in-Some-clause-refused g t c =
+pub sharding::ShardingCodec::partial_decode_shard-returns-clause-refused : goal.sharding::ShardingCodec::partial_decode_shard-returns-clause-refused
+sharding::ShardingCodec::partial_decode_shard-returns-clause-refused g t c =
     let x = c.args.self.now in
     let stored = c.args.stored.now in
     let chunk = c.args.chunk.now in
@@ -352,14 +461,73 @@ sharding::ShardingCodec::partial_decode_shard-returns-in-Some-clause-refused g t
     (λ e why. subst (λ (r : ShardRead). RefusesShard x chunk.cell_type.now r e) read_is (subchunks_refused x chunk.cell_type.now (read_of read) (opened read) e why))
     c.read_part.ensures.refused
 
-pub sharding::ShardingCodec::partial_decode_shard-returns-clause-refused : goal.sharding::ShardingCodec::partial_decode_shard-returns-clause-refused
-sharding::ShardingCodec::partial_decode_shard-returns-clause-refused g t c =
+pub sharding::ShardingCodec::partial_decode_shard-read_all-requires : goal.sharding::ShardingCodec::partial_decode_shard-read_all-requires
+sharding::ShardingCodec::partial_decode_shard-read_all-requires g t c κs within =
     let x = c.args.self.now in
     let stored = c.args.stored.now in
     let chunk = c.args.chunk.now in
     let at_is : c.is_at_start-at_start.result ≡ is_at_start (location_of x) = c.is_at_start-at_start.ensures ∙ ap is_at_start c.index_location.ensures in
     let sub_is : c.deref.result.now ≡ sizes_of (subchunk_sizes_of x) = c.deref.ensures.value ∙ c.in_ok-sub.ensures in
-    let none = rw c.in-None.is at c.in_ok-read.ensures.none in
+    let r_of = λ (at : Bool) (sub : List ℕ). shard_read at (shape_of chunk) sub (box_of c.args.part.now) (bytes_of stored) (refuses_of stored) in
+    let read = c.in-Some.read in
+    let read_is : read_of read ≡ r_of (is_at_start (location_of x)) (sizes_of (subchunk_sizes_of x)) =
+    (rw c.in-Some.is at c.in_ok-read.ensures.opened) ∙ ap (λ (at : Bool). r_of at c.deref.result.now) at_is ∙ ap (r_of (is_at_start (location_of x))) sub_is in
+    let part_whole : (box_of c.args.part.now).shape ≡ shape_of chunk = search rules in
+    let whole = subst (λ (r : ShardRead). r.part.shape ≡ r.shape) (sym read_is) part_whole in
+    let small = subst (λ (r : ShardRead). position_count r.part.shape * cell_size (chunk_kind chunk) < 2 ^ 64) (sym read_is) c.requires.size in
+    (first_of (omega (arith, c.decreases), search rules), (search rules, (small, whole)))
+
+pub sharding::ShardingCodec::partial_decode_shard-returns-then-eq-clause-cells : goal.sharding::ShardingCodec::partial_decode_shard-returns-then-eq-clause-cells
+sharding::ShardingCodec::partial_decode_shard-returns-then-eq-clause-cells g t c =
+    let x = c.args.self.now in
+    let stored = c.args.stored.now in
+    let chunk = c.args.chunk.now in
+    let at_is : c.is_at_start-at_start.result ≡ is_at_start (location_of x) = c.is_at_start-at_start.ensures ∙ ap is_at_start c.index_location.ensures in
+    let sub_is : c.deref.result.now ≡ sizes_of (subchunk_sizes_of x) = c.deref.ensures.value ∙ c.in_ok-sub.ensures in
+    let r_of = λ (at : Bool) (sub : List ℕ). shard_read at (shape_of chunk) sub (box_of c.args.part.now) (bytes_of stored) (refuses_of stored) in
+    let read = c.in-Some.read in
+    let read_is : read_of read ≡ r_of (is_at_start (location_of x)) (sizes_of (subchunk_sizes_of x)) =
+    (rw c.in-Some.is at c.in_ok-read.ensures.opened) ∙ ap (λ (at : Bool). r_of at c.deref.result.now) at_is ∙ ap (r_of (is_at_start (location_of x))) sub_is in
+    IfOk-weaker c.read_all.result _ _
+    (λ made has. subst (λ (r : ShardRead). DecodesPart (chunk_kind chunk) r.shape r.part (shard_decoded x chunk.cell_type.now r) (data_of made)) read_is (parts_decode x chunk.cell_type.now (read_of read) (opened read) (data_of made) has))
+    c.read_all.ensures.all
+
+pub sharding::ShardingCodec::partial_decode_shard-returns-then-eq-clause-whole : goal.sharding::ShardingCodec::partial_decode_shard-returns-then-eq-clause-whole
+sharding::ShardingCodec::partial_decode_shard-returns-then-eq-clause-whole g t c =
+    let x = c.args.self.now in
+    let stored = c.args.stored.now in
+    let chunk = c.args.chunk.now in
+    let at_is : c.is_at_start-at_start.result ≡ is_at_start (location_of x) = c.is_at_start-at_start.ensures ∙ ap is_at_start c.index_location.ensures in
+    let sub_is : c.deref.result.now ≡ sizes_of (subchunk_sizes_of x) = c.deref.ensures.value ∙ c.in_ok-sub.ensures in
+    let r_of = λ (at : Bool) (sub : List ℕ). shard_read at (shape_of chunk) sub (box_of c.args.part.now) (bytes_of stored) (refuses_of stored) in
+    let read = c.in-Some.read in
+    let read_is : read_of read ≡ r_of (is_at_start (location_of x)) (sizes_of (subchunk_sizes_of x)) =
+    (rw c.in-Some.is at c.in_ok-read.ensures.opened) ∙ ap (λ (at : Bool). r_of at c.deref.result.now) at_is ∙ ap (r_of (is_at_start (location_of x))) sub_is in
+    λ all. IfOk-weaker c.read_all.result _ _
+    (λ made some. subst (λ (r : ShardRead). IsSome (shard_decoded x chunk.cell_type.now r)) read_is some)
+    c.read_all.ensures.decodes
+
+pub sharding::ShardingCodec::partial_decode_shard-returns-then-eq-clause-refused : goal.sharding::ShardingCodec::partial_decode_shard-returns-then-eq-clause-refused
+sharding::ShardingCodec::partial_decode_shard-returns-then-eq-clause-refused g t c =
+    let x = c.args.self.now in
+    let stored = c.args.stored.now in
+    let chunk = c.args.chunk.now in
+    let at_is : c.is_at_start-at_start.result ≡ is_at_start (location_of x) = c.is_at_start-at_start.ensures ∙ ap is_at_start c.index_location.ensures in
+    let sub_is : c.deref.result.now ≡ sizes_of (subchunk_sizes_of x) = c.deref.ensures.value ∙ c.in_ok-sub.ensures in
+    let r_of = λ (at : Bool) (sub : List ℕ). shard_read at (shape_of chunk) sub (box_of c.args.part.now) (bytes_of stored) (refuses_of stored) in
+    let read = c.in-Some.read in
+    let read_is : read_of read ≡ r_of (is_at_start (location_of x)) (sizes_of (subchunk_sizes_of x)) =
+    (rw c.in-Some.is at c.in_ok-read.ensures.opened) ∙ ap (λ (at : Bool). r_of at c.deref.result.now) at_is ∙ ap (r_of (is_at_start (location_of x))) sub_is in
+    IfErr-weaker c.read_all.result _ _ (λ e why. subst (λ (r : ShardRead). RefusesShard x chunk.cell_type.now r e) read_is why) c.read_all.ensures.refused
+
+pub sharding::ShardingCodec::partial_decode_shard-returns-in_default-clause-refused : goal.sharding::ShardingCodec::partial_decode_shard-returns-in_default-clause-refused
+sharding::ShardingCodec::partial_decode_shard-returns-in_default-clause-refused g t c =
+    let x = c.args.self.now in
+    let stored = c.args.stored.now in
+    let chunk = c.args.chunk.now in
+    let at_is : c.is_at_start-at_start.result ≡ is_at_start (location_of x) = c.is_at_start-at_start.ensures ∙ ap is_at_start c.index_location.ensures in
+    let sub_is : c.deref.result.now ≡ sizes_of (subchunk_sizes_of x) = c.deref.ensures.value ∙ c.in_ok-sub.ensures in
+    let none = rw c.in_default.is at c.in_ok-read.ensures.none in
     let at = is_at_start (location_of x) in
     let m : ChainMeaning = chain_meaning (inner_chain_of x) in
     let k = chunk_kind chunk in
@@ -373,7 +541,39 @@ sharding::ShardingCodec::read_part-decode_piece-requires g t c κs within =
 
 pub sharding::ShardingCodec::read_part-read_subchunks-requires : goal.sharding::ShardingCodec::read_part-read_subchunks-requires
 sharding::ShardingCodec::read_part-read_subchunks-requires g t c κs within =
-    (first_of (omega (arith, c.decreases), search rules), (search rules, (c.requires, c.in_ok-met.ensures)))
+    (first_of (omega (arith, c.decreases), search rules), (search rules, (c.requires, c.in_ok-met.ensures.met)))
+
+pub chain::CodecChain::partial_decode_chunk-returns-in-Bytes-clause-whole : goal.chain::CodecChain::partial_decode_chunk-returns-in-Bytes-clause-whole
+chain::CodecChain::partial_decode_chunk-returns-in-Bytes-clause-whole g t c = λ all.
+    let k = chunk_kind c.args.chunk.now in
+    let f = chunk_fill c.args.chunk.now in
+    let s = c.args.chunk.now.shape.now in
+    let b = bytes_of c.args.stored.now in
+    let before = c.args.self.now.array_to_array in
+    let last = c.args.self.now.array_to_bytes in
+    let none = eqb-true (vec_len before) 0 (sym c.if-not-is_empty.ensures) in
+    let alone = is_none before.items (omega (arith, none, before.ok.0)) in
+    ok_both c.partial_decode_bytes.result _ _ _
+    (λ made part same.
+    let some = subst IsSome same (subst IsSome (sym part.are_cells) refl) in
+    alone_some before.items (codec_meaning last) k f s b alone (subst (λ x. IsSome ((codec_meaning x).decoded k f s b)) (sym c.in-Bytes.is) some))
+    c.partial_decode_bytes.ensures.part (c.partial_decode_bytes.ensures.whole all)
+
+pub chain::CodecChain::partial_decode_chunk-returns-in-Sharding-clause-whole : goal.chain::CodecChain::partial_decode_chunk-returns-in-Sharding-clause-whole
+chain::CodecChain::partial_decode_chunk-returns-in-Sharding-clause-whole g t c = λ all.
+    let k = chunk_kind c.args.chunk.now in
+    let f = chunk_fill c.args.chunk.now in
+    let s = c.args.chunk.now.shape.now in
+    let b = bytes_of c.args.stored.now in
+    let before = c.args.self.now.array_to_array in
+    let last = c.args.self.now.array_to_bytes in
+    let none = eqb-true (vec_len before) 0 (sym c.if-not-is_empty.ensures) in
+    let alone = is_none before.items (omega (arith, none, before.ok.0)) in
+    IfOk-weaker c.partial_decode_shard.result _ _
+    (λ made h.
+    alone_some before.items (codec_meaning last) k f s b alone
+    (subst (λ x. IsSome ((codec_meaning x).decoded k f s b)) (sym c.in-Sharding.is) (subst (λ x. IsSome ((sharding_meaning x).decoded k f s b)) c.deref.ensures h)))
+    (c.partial_decode_shard.ensures.whole all)
 
 pub chain::CodecChain::partial_decode_chunk-returns-in-Sharding-clause-refused : goal.chain::CodecChain::partial_decode_chunk-returns-in-Sharding-clause-refused
 chain::CodecChain::partial_decode_chunk-returns-in-Sharding-clause-refused g t c =

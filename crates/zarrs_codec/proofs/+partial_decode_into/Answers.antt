@@ -24,6 +24,7 @@ use Rattle.zarrs_codec_chain.proofs.IntoSteps.{all_into, filled_part, own_box, o
 use Rattle.zarrs_codec_chain.proofs.Kept.{err_kept}
 use Rattle.zarrs_codec_chain.proofs.MovedBoxes.{moved_box, moved_lies, moved_outside}
 use Rattle.zarrs_codec_chain.proofs.OpenShards.{opened}
+use Rattle.zarrs_codec_chain.proofs.ReadSteps.{none_unfound}
 use Rattle.zarrs_codec_chain.specs.OpenShards.{read_of}
 use Rattle.zarrs_codec_chain.specs.PartRefusals.{RefusesPartDecoding}
 use Rattle.zarrs_codec_chain.specs.Refusals.{IsTooLargeToDecode}
@@ -51,7 +52,7 @@ sharding::ShardingCodec::read_subchunk_into-returns-in_default-clause-read g t c
     let dec = m.decoded k f r.sub in
     let t = c.args.target.now in
     let region = target_box t in
-    skip_at k dec f r.shape r.sub r.part (parts_of r) (parent_box t) region c.args.indices.now (data_of_target t) c.in_default.ensures.none
+    skip_at k dec f r.shape r.sub r.part (parts_of r) (parent_box t) region c.args.indices.now (data_of_target t) (none_unfound r (opened c.args.read.now) c.args.indices.now c.in_default.ensures.none)
 
 pub sharding::ShardingCodec::read_subchunk_into-returns-in_default-2-clause-read : goal.sharding::ShardingCodec::read_subchunk_into-returns-in_default-2-clause-read
 sharding::ShardingCodec::read_subchunk_into-returns-in_default-2-clause-read g t c =
@@ -252,7 +253,7 @@ sharding::ShardingCodec::read_subchunks_into-returns-in_default-clause-all g t c
     let t = c.args.target.now in
     let region = target_box t in
     let nothing = rw c.in_default.is at c.in_ok-walk.ensures.none in
-    all_at k dec f r.shape r.sub r.part (parts_of r) (parent_box t) region (box_of c.in_ok-met.met) (data_of_target t) c.in_ok-met.met.same_length c.in_ok-met.ensures
+    all_at k dec f r.shape r.sub r.part (parts_of r) (parent_box t) region (box_of c.in_ok-met.met) (data_of_target t) c.in_ok-met.met.same_length c.in_ok-met.ensures.met
     (subst (λ (done : List (List ℕ)). HasSubchunksAt k dec f r.shape r.sub r.part (parts_of r) done (parent_box t) region (data_of_target t)) (sym nothing)
     (none_at k dec f r.shape r.sub r.part (parts_of r) (parent_box t) region (data_of_target t)))
 
@@ -271,7 +272,7 @@ sharding::ShardingCodec::read_subchunks_into-loop-walk-init g t c =
     let first = rw c.in-Some.is at c.in_ok-walk.ensures.first in
     record {
       kept = keeps_itself t;
-      meets = subst (λ (b : Box). MeetsPart r.sub r.part b) (sym same) c.in_ok-met.ensures;
+      meets = subst (λ (b : Box). MeetsPart r.sub r.part b) (sym same) c.in_ok-met.ensures.met;
       read =
           subst (λ (n : ℕ). HasSubchunksAt k dec f r.shape r.sub r.part (parts_of r) (take n (positions (walk_box walk))) (parent_box t) region (data_of_target t)) (sym first)
           (none_at k dec f r.shape r.sub r.part (parts_of r) (parent_box t) region (data_of_target t));

@@ -18,7 +18,7 @@ impl<
     C: ChainTraits,
 > Engine<S, G, K, C> {
     ghost use Rattle.std.specs.Prelude.{◌≡◌, true, [], ◌∷◌, ◌&&◌, length, None, Some};
-    ghost use Rattle.std.specs.Prelude.{IfOk, IfErr, IsTrue, ◌↔◌};
+    ghost use Rattle.std.specs.Prelude.{IfOk, IfErr, IsErr, IsTrue, ◌↔◌};
     ghost use Rattle.zarrs_subset.specs.Boxes.{position_count};
     ghost use Rattle.zarrs_subset.specs.Regions.{LiesInBox, LiesInShape, box_of};
     ghost use Rattle.zarrs_chunk_grid.specs.Grids.{box_at, has_box};
@@ -120,6 +120,8 @@ impl<
         ensures refused { IfErr result (λ e. RefusesPartly (layout_of self.now)
             (stores_empty_chunks options.now) chunk.now.indices.now (box_of part.now)
             (data_of part_data.now) 0 (store_of S.state self.now) (refusal_of e)) }
+        ensures refusing { (store_of S.state self.now).refuses
+            ((layout_of self.now).key chunk.now.indices.now) ≡ true → IsErr result }
     {
         let region = &chunk.region;
         let Some(encoded) = self.stored_at(alloc, chunk.indices, &chunk.key)? else {
@@ -148,11 +150,13 @@ impl<
             (position_count (box_of part.now).shape) }
         requires ask { MayAskChunk (layout_of self.old) chunk.now.indices.now
             (store_of S.state self.old) }
-        ensures { Writes refusal_of S.state (PatchesChunk (layout_of self.old)
+        ensures writes { Writes refusal_of S.state (PatchesChunk (layout_of self.old)
             (stores_empty_chunks options.now) chunk.now.indices.now (box_of part.now)
             (data_of part_data.now)) (LeavesPartly (layout_of self.old)
             (stores_empty_chunks options.now) chunk.now.indices.now (box_of part.now)
             (data_of part_data.now)) self.old self.new result }
+        ensures refusing { (store_of S.state self.old).refuses
+            ((layout_of self.old).key chunk.now.indices.now) ≡ true → IsErr result }
     {
         let write = self.part_write(alloc, chunk, part, part_data, options)?;
         self.put_part(alloc, &chunk.key, write)?;

@@ -16,7 +16,8 @@ impl<
     K: ChunkKeyEncodingTraits,
     C: ChainTraits,
 > Engine<S, G, K, C> {
-    ghost use Rattle.std.specs.Prelude.{◌≡◌, true, IfOk, IfErr, None, length, map, option_map};
+    ghost use Rattle.std.specs.Prelude.{◌≡◌, true, IfOk, IfErr, OnOk, None, length, map};
+    ghost use Rattle.std.specs.Prelude.{option_map};
     ghost use Rattle.zarrs_data_type.specs.ArrayData.{data_of};
     ghost use Rattle.zarrs_engine_calls.specs.Content.{value_at};
     ghost use Rattle.zarrs_engine_calls.specs.Reach.{MayAskChunk, MayAskChunks};
@@ -26,7 +27,8 @@ impl<
     ghost use Rattle.zarrs_engine.specs.Engine.{layout_of, store_of};
     ghost use Rattle.zarrs_engine.specs.Outcomes.{RetrievesChunkOrRefuses, RetrievesIfExistsOrRefuses};
     ghost use Rattle.zarrs_engine_layout.specs.Chunks.{IsChunk};
-    ghost use Rattle.zarrs_engine.specs.Encoded.{ReadsValue, RefusesEncoded, stored_values};
+    ghost use Rattle.zarrs_engine.specs.Encoded.{ReadsKeys, ReadsValue, RefusesEncoded};
+    ghost use Rattle.zarrs_engine.specs.Encoded.{stored_values};
     ghost use Rattle.zarrs_subset.specs.Regions.{box_of, positions};
     ghost use Rattle.zarrs_engine_layout.specs.Answers.{Answers};
 
@@ -196,6 +198,8 @@ impl<
         ensures values { IfOk result (λ values. map (option_map (λ v. v.items)) values.items
             ≡ stored_values (layout_of self.now) (store_of S.state self.now)
             (positions (box_of chunks.now))) }
+        ensures accepted { OnOk result (ReadsKeys (layout_of self.now)
+            (positions (box_of chunks.now)) (store_of S.state self.now)) }
         ensures refused { IfErr result (λ e. RefusesEncoded (layout_of self.now)
             (positions (box_of chunks.now)) (store_of S.state self.now) (refusal_of e)) }
     {

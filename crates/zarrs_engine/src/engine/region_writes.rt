@@ -18,7 +18,7 @@ impl<
     C: ChainTraits,
 > Engine<S, G, K, C> {
     ghost use Rattle.std.specs.Prelude.{◌≡◌, true, false, Bool, [], ◌∷◌, length};
-    ghost use Rattle.std.specs.Prelude.{IfOk, IfErr};
+    ghost use Rattle.std.specs.Prelude.{IfOk, IfErr, IsErr};
     ghost use Rattle.zarrs_subset.specs.Boxes.{position_count};
     ghost use Rattle.zarrs_subset.specs.Regions.{box_of, positions};
     ghost use Rattle.zarrs_chunk_grid.specs.Grids.{box_at, has_box};
@@ -27,7 +27,7 @@ impl<
     ghost use Rattle.zarrs_codec_chain.specs.Options.{stores_empty_chunks};
     ghost use Rattle.zarrs_engine_calls.specs.Reach.{MayAskParts};
     ghost use Rattle.zarrs_engine_calls.specs.Refusals.{is_too_large, refusal_of};
-    ghost use Rattle.zarrs_engine_calls.specs.StateRefusals.{RefusesPart};
+    ghost use Rattle.zarrs_engine_calls.specs.StateRefusals.{IsPart, RefusesPart};
     ghost use Rattle.zarrs_engine.specs.Outcomes.{StoresRegionAs, MayStoreRegion};
     ghost use Rattle.zarrs_engine.specs.Outcomes.{StoresChunksOrRefuses, Writes};
     ghost use Rattle.zarrs_engine.specs.Outcomes.{StoresPartAs, MayStorePart};
@@ -63,6 +63,9 @@ impl<
             (λ e. RefusesPart (layout_of self.now) keep (box_of region.now)
             (data_of region_data.now) chunk.now.indices.now 0 (store_of S.state self.now)
             (refusal_of e)) }
+        ensures refusing { IsPart (layout_of self.now) (box_of region.now) chunk.now.indices.now
+            → (store_of S.state self.now).refuses ((layout_of self.now).key
+            chunk.now.indices.now) ≡ true → IsErr result }
     {
         let data_type = &self.layout.cell_type.data_type;
         if lies_in_box(&chunk.region, region) {
@@ -90,9 +93,12 @@ impl<
             (position_count (box_of region.now).shape) }
         requires ask { MayAskParts (layout_of self.now) (box_of region.now)
             (chunk.now.indices.now ∷ []) (store_of S.state self.now) }
-        ensures { MakesPartValue (layout_of self.now) (stores_empty_chunks options.now)
+        ensures makes { MakesPartValue (layout_of self.now) (stores_empty_chunks options.now)
             (box_of region.now) (data_of region_data.now) chunk.now.indices.now
             (store_of S.state self.now) result }
+        ensures refusing { IsPart (layout_of self.now) (box_of region.now) chunk.now.indices.now
+            → (store_of S.state self.now).refuses ((layout_of self.now).key
+            chunk.now.indices.now) ≡ true → IsErr result }
     {
         let shape = chunk.region.shape();
         let Some(_) = self.layout.shape_count(shape) else {
@@ -122,12 +128,15 @@ impl<
             (position_count (box_of region.now).shape) }
         requires ask { MayAskParts (layout_of self.old) (box_of region.now)
             (chunk.now.indices.now ∷ []) (store_of S.state self.old) }
-        ensures { Writes refusal_of S.state
+        ensures writes { Writes refusal_of S.state
             (StoresOneMore (layout_of self.old) (stores_empty_chunks options.now)
             (box_of region.now) (data_of region_data.now) chunk.now.indices.now)
             (LeavesPart (layout_of self.old) (stores_empty_chunks options.now)
             (box_of region.now) (data_of region_data.now) chunk.now.indices.now)
             self.old self.new result }
+        ensures refusing { IsPart (layout_of self.old) (box_of region.now) chunk.now.indices.now
+            → (store_of S.state self.old).refuses ((layout_of self.old).key
+            chunk.now.indices.now) ≡ true → IsErr result }
     {
         let value = self.part_value(alloc, region, region_data, chunk, options)?;
         self.put(alloc, &chunk.key, value)?;

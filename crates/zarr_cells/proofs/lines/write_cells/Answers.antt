@@ -21,8 +21,8 @@ loop-rest-preserved g c =
     written_more rows.form rows.size rows.width c.args.column c.args.bytes.now c.loop-rest.rest.now c.split_at.result.1.now cell c.loop-rest.column c.next-column.result
     (g.W.Write.contents c.args.out.now) between new c.loop-rest.invariant one c.split_at.ensures.by_index.0 c.next-column.ensures
 
-pub returns-then-is_empty : goal.returns-then-is_empty
-returns-then-is_empty g c =
+pub returns-then-is_empty-clause-written : goal.returns-then-is_empty-clause-written
+returns-then-is_empty-clause-written g c =
     let rows = c.args.rows.now in
     let none : length c.loop-rest.rest.now ≡ 0 = grind (arith, nat_tests) in
     written_all rows.form rows.size rows.width c.args.column c.args.bytes.now c.loop-rest.rest.now c.loop-rest.column (g.W.Write.contents c.args.out.now)

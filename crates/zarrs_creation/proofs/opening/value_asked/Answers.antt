@@ -1,8 +1,12 @@
-use Rattle.std.proofs.Common.{rules}
-use Rattle.zarrs_creation.proofs.Named.{key_names}
+use Rattle.std.proofs.Common.{◌≡◌, rules}
+use Rattle.zarrs_creation.proofs.Named.{store_names}
+use Rattle.zarrs_creation.proofs.Openings.{read_refused}
 use Rattle.zarrs_creation.proofs.opening.value_asked.Goals as goal
 
-pub returns-in_err-value : goal.returns-in_err-value
-returns-in_err-value g c =
-    let named = key_names c.args.key.now c.in_err-value.field-0.0 c.in_err-value.ensures.named in
-    record { read = search rules; refused = search rules; named = search (rules, named) }
+pub returns-in-Err : goal.returns-in-Err
+returns-in-Err g c =
+    let state = g.S.ReadableStorageTraits.state c.args.storage.now in
+    let key = c.args.key.now in
+    let why = read_refused state key c.in-Err.error c.in-Err.ensures.refused in
+    let named = store_names (λ at. at ≡ key) c.in-Err.error in
+    record { read = search rules; refused = search (rules, why); named = search (rules, named) }

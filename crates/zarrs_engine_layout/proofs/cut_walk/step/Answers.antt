@@ -1,5 +1,5 @@
 use Rattle.std.proofs.Common.{arith}
-use Rattle.zarrs_engine_layout.proofs.CutWalks.{all_back, all_last, back_below, back_first, back_long, back_more, found_inside, found_next}
+use Rattle.zarrs_engine_layout.proofs.CutWalks.{all_back, all_first, all_last, back_below, back_first, back_long, back_more, found_inside, found_next}
 use Rattle.zarrs_engine_layout.proofs.cut_walk.step.Goals as goal
 
 pub loop-axis-init : goal.loop-axis-init
@@ -44,3 +44,6 @@ returns-clause-inside c = all_back c.args.shape.now c.args.position.now c.requir
 
 pub returns-clause-last : goal.returns-clause-last
 returns-clause-last c = all_last c.args.shape.now c.args.position.now c.requires c.loop-axis.axis c.loop-axis.position (omega arith) c.loop-axis.invariant
+
+pub returns-clause-first : goal.returns-clause-first
+returns-clause-first c = all_first c.args.shape.now c.args.position.now c.requires c.loop-axis.axis c.loop-axis.position (omega arith) c.loop-axis.invariant

@@ -32,13 +32,13 @@ returns c =
     (members_view c.put_member-8.new.members.entries)
     (members_view c.put_member-9.new.members.entries)
     (members_view c.put_member-10.new.members.entries)
-    (ap Some c.from.ensures) (c.in_ok-put_member.ensures ∙ ap (λ es. put_some (codes "zarr_format") (Some (view c.from.result)) (members_view es)) c.new-members.ensures.empty)
-    (ap Some (c.in_ok-shape.ensures.written ∙ ap numbers_data c.as_slice.ensures.value)) c.in_ok-put_member-2.ensures
-    (ap Some c.in_ok-chunks.ensures) c.in_ok-put_member-3.ensures
-    (ap Some c.in_ok-dtype.ensures) c.in_ok-put_member-4.ensures
-    (ap Some c.in_ok-compressor.ensures.cases) c.in_ok-put_member-5.ensures
-    (ap Some c.in_ok-fill_value.ensures) c.in_ok-put_member-6.ensures
-    (ap Some c.in_ok-order.ensures) c.in_ok-put_member-7.ensures
-    (ap Some c.in_ok-filters.ensures.cases) c.in_ok-put_member-8.ensures
-    (ap Some c.in_ok-separator.ensures.written) c.in_ok-put_member-9.ensures
-    refl c.in_ok-put_member-10.ensures
+    (ap Some c.from.ensures) (c.in_ok-put_member.ensures.put ∙ ap (λ es. put_some (codes "zarr_format") (Some (view c.from.result)) (members_view es)) c.new-members.ensures.empty)
+    (ap Some (c.in_ok-shape.ensures.written ∙ ap numbers_data c.as_slice.ensures.value)) c.in_ok-put_member-2.ensures.put
+    (ap Some c.in_ok-chunks.ensures) c.in_ok-put_member-3.ensures.put
+    (ap Some c.in_ok-dtype.ensures) c.in_ok-put_member-4.ensures.put
+    (ap Some c.in_ok-compressor.ensures.cases) c.in_ok-put_member-5.ensures.put
+    (ap Some c.in_ok-fill_value.ensures) c.in_ok-put_member-6.ensures.put
+    (ap Some c.in_ok-order.ensures) c.in_ok-put_member-7.ensures.put
+    (ap Some c.in_ok-filters.ensures.cases) c.in_ok-put_member-8.ensures.put
+    (ap Some c.in_ok-separator.ensures.written) c.in_ok-put_member-9.ensures.put
+    refl c.in_ok-put_member-10.ensures.put

@@ -36,14 +36,14 @@ returns c =
     (members_view c.put_member-10.new.members.entries)
     (members_view c.put_member-11.new.members.entries)
     (c.other_members-members.ensures ∙ ap (besides document_names) c.in_ok-fields.ensures)
-    (ap Some c.from.ensures) c.in_ok-put_member.ensures
-    (ap Some c.in_ok-node_type.ensures) c.in_ok-put_member-2.ensures
-    (ap Some (c.in_ok-shape.ensures.written ∙ ap numbers_data c.as_slice.ensures.value)) c.in_ok-put_member-3.ensures
-    (ap Some c.in_ok-data_type.ensures.written) c.in_ok-put_member-4.ensures
-    (ap Some c.in_ok-chunk_grid.ensures.written) c.in_ok-put_member-5.ensures
-    (ap Some c.in_ok-key_encoding.ensures.written) c.in_ok-put_member-6.ensures
-    (ap Some c.in_ok-fill_value.ensures) c.in_ok-put_member-7.ensures
-    (ap Some c.in_ok-codecs.ensures) c.in_ok-put_member-8.ensures
-    (c.in_ok-attributes.ensures) c.in_ok-put_member-9.ensures
-    (c.in_ok-transformers.ensures) c.in_ok-put_member-10.ensures
-    (c.in_ok-names.ensures) c.in_ok-put_member-11.ensures
+    (ap Some c.from.ensures) c.in_ok-put_member.ensures.put
+    (ap Some c.in_ok-node_type.ensures) c.in_ok-put_member-2.ensures.put
+    (ap Some (c.in_ok-shape.ensures.written ∙ ap numbers_data c.as_slice.ensures.value)) c.in_ok-put_member-3.ensures.put
+    (ap Some c.in_ok-data_type.ensures.written) c.in_ok-put_member-4.ensures.put
+    (ap Some c.in_ok-chunk_grid.ensures.written) c.in_ok-put_member-5.ensures.put
+    (ap Some c.in_ok-key_encoding.ensures.written) c.in_ok-put_member-6.ensures.put
+    (ap Some c.in_ok-fill_value.ensures) c.in_ok-put_member-7.ensures.put
+    (ap Some c.in_ok-codecs.ensures) c.in_ok-put_member-8.ensures.put
+    (c.in_ok-attributes.ensures) c.in_ok-put_member-9.ensures.put
+    (c.in_ok-transformers.ensures) c.in_ok-put_member-10.ensures.put
+    (c.in_ok-names.ensures) c.in_ok-put_member-11.ensures.put

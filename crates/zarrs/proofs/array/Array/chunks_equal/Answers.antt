@@ -15,5 +15,7 @@ returns g c =
       equal = compared.ensures.equal;
       different = compared.ensures.different;
       content = compared.ensures.content;
+      asked = compared.ensures.asked;
+      counted = compared.ensures.counted;
       refused = compared.ensures.refused;
     })

@@ -1,4 +1,5 @@
 use Rattle.std.proofs.Common.{refl, rules, subst}
+use Rattle.std.proofs.lemmas.Result.{err_from_is_err_and}
 use Rattle.std.specs.Prelude.{OnOk, IfErr}
 use Rattle.zarrs_subset.specs.Regions.{Box}
 use Rattle.zarrs_data_type.specs.ArrayData.{data_of}
@@ -21,6 +22,7 @@ returns g c =
     record {
       done = subst (λ (b : Box). OnOk written.result (EncodesPart layout keep index b held old new)) c.in_ok-chunk_subset.ensures written.ensures.done;
       refused = subst (λ (b : Box). IfErr written.result (λ e. RefusesEncodePart layout keep index b held (refusal_of e) old new)) c.in_ok-chunk_subset.ensures written.ensures.refused;
+      refusing = written.ensures.refusing;
       kept = record { layout_kept = written.ensures.layout_kept; metadata = refl; codec_options = refl; codec_specific_options = refl; metadata_options = refl };
     }
 
@@ -30,4 +32,5 @@ returns-in_err-chunk_subset g c =
     let keep = stores_empty_chunks c.args.options.now in
     let old = g.TStorage.ReadableStorageTraits.state c.args.self.now.engine.storage in
     let why = encode_short layout keep c.args.chunk_indices.now (g.R.ArraySubsetTraits.region c.args.chunk_subset.now) (data_of c.args.bytes.now) old in
-    search (rules, why)
+    let p = err_from_is_err_and c.from_residual.result c.from_residual.ensures.1 in
+    rw (p.1, p.2) (record { done = tt; refused = why; refusing = λ _. refl; kept = search rules })

@@ -33,6 +33,16 @@ returns-clause-cells g c =
     ap (λ s. window_bytes new.window (g.B.ByteSource.bytes s.now)) c.new.ensures.source ∙ ap (λ w. window_bytes w (g.B.ByteSource.bytes source)) c.new.ensures.window in
     subst (λ (b : List ℕ). IfOk c.partial_decode_chunk.result (λ made. HoldsPart m chunk part b (data_of made))) bytes_are c.partial_decode_chunk.ensures.cells
 
+pub returns-clause-whole : goal.returns-clause-whole
+returns-clause-whole g c = λ all.
+    let m : ChainMeaning = chain_meaning c.args.self.now in
+    let chunk = c.args.chunk.now in
+    let source = c.args.source.now in
+    let new = c.new.result in
+    let bytes_are : bytes_of new ≡ window_bytes c.args.window (g.B.ByteSource.bytes source) =
+    ap (λ s. window_bytes new.window (g.B.ByteSource.bytes s.now)) c.new.ensures.source ∙ ap (λ w. window_bytes w (g.B.ByteSource.bytes source)) c.new.ensures.window in
+    subst (λ (b : List ℕ). IfOk c.partial_decode_chunk.result (λ _. IsSome (decoded_of m chunk b))) bytes_are (c.partial_decode_chunk.ensures.whole all)
+
 pub returns-clause-refused : goal.returns-clause-refused
 returns-clause-refused g c =
     let m : ChainMeaning = chain_meaning c.args.self.now in

@@ -1,9 +1,10 @@
 use Rattle.std.proofs.Common.{◌≡◌, ◌∙◌, ◌+◌, ◌-◌, ◌*◌, ◌<◌, ◌≤◌, ◌^◌, ◌&&◌, Bool, List, ℕ, Option, Some, None, true, false, refl, ap, arith, drop, length, rules, subst, sym}
+use Rattle.std.specs.Prelude.{IfOk}
 use Rattle.zarrs_codec_chain.specs.OpenShards.{read_of}
 use Rattle.zarrs_codec_chain.proofs.OpenShards.{at_number, data_within, few_bytes, few_subchunks, named_here, opened, range_wider}
 use Rattle.zarrs_subset.specs.Regions.{LiesInShape, box_of}
 use Rattle.zarrs_codec_shard.specs.Subchunks.{is_cut_by}
-use Rattle.zarrs_codec_chain.specs.ShardParts.{MeetsPart}
+use Rattle.zarrs_codec_chain.specs.ShardParts.{HasOnlyMet}
 use Rattle.zarrs_codec_chain.proofs.shard_part.ShardPart.met.Goals as goal
 
 pub met_subchunks-requires-clause-cut : goal.met_subchunks-requires-clause-cut
@@ -12,3 +13,8 @@ met_subchunks-requires-clause-cut g c =
 
 pub met_subchunks-requires-clause-part : goal.met_subchunks-requires-clause-part
 met_subchunks-requires-clause-part g c = subst (LiesInShape (box_of c.args.self.now.part.now)) (sym c.chunk_shape.ensures) c.args.self.now.lies
+
+pub returns-clause-only : goal.returns-clause-only
+returns-clause-only g c =
+    let part = box_of c.args.self.now.part.now in
+    subst (λ (sub : List ℕ). IfOk c.met_subchunks.result (λ met. HasOnlyMet sub part (box_of met))) c.shape.ensures c.met_subchunks.ensures.only

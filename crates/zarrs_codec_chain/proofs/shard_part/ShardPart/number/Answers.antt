@@ -4,16 +4,20 @@ use Rattle.zarrs_codec_chain.proofs.OpenShards.{at_number, data_within, few_byte
 use Rattle.zarrs_codec_shard.specs.Subchunks.{quotients}
 use Rattle.zarrs_subset.specs.Boxes.{InShape, place}
 use Rattle.zarrs_subset.proofs.Kernel.{place_below}
-use Rattle.zarrs_codec_chain.proofs.ReadSteps.{none_unfound}
 use Rattle.zarrs_codec_chain.proofs.shard_part.ShardPart.number.Goals as goal
 
 pub returns-in_default-clause-none : goal.returns-in_default-clause-none
 returns-in_default-clause-none g c =
     let self = c.args.self.now in
     let r = read_of self in
-    let is = opened self in
     let i = c.args.indices.now in
-    none_unfound r is i (subst (λ (x : List ℕ). InShape x i → 2 ^ 64 ≤ place x i) c.grid.ensures c.in_default.ensures) (few_subchunks self)
+    let past = subst (λ (x : List ℕ). InShape x i → 2 ^ 64 ≤ place x i) c.grid.ensures c.in_default.ensures in
+    let few = few_subchunks self in
+    λ n at.
+    let large = past at.in_grid in
+    let same = at.at_n in
+    let below = at.below in
+    omega arith
 
 pub returns-clause-number : goal.returns-clause-number
 returns-clause-number g c =

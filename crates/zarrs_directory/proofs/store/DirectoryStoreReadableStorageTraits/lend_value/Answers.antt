@@ -10,4 +10,10 @@ returns-in-Some g c =
     let found : option_copied c.get.result ≡ map.get (values_of c.args.self.now.values) c.args.key.now =
     c.get.ensures.value ∙ sym (get_stored c.args.self.now.values c.args.key.now) in
     let present : map.get (values_of c.args.self.now.values) c.args.key.now ≡ Some c.as_slice.result.now = search (rules, found) in
-    record { lends = record { present = present; allowed = λ value place at below. refl; served = refl } }
+    record { lends = record { present = present; allowed = λ value place at below. refl; served = refl }; value = sym present }
+
+pub returns-in-None-clause-value : goal.returns-in-None-clause-value
+returns-in-None-clause-value g c =
+    let found : option_copied c.get.result ≡ map.get (values_of c.args.self.now.values) c.args.key.now =
+    c.get.ensures.value ∙ sym (get_stored c.args.self.now.values c.args.key.now) in
+    search (rules, found)

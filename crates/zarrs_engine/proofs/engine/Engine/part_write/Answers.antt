@@ -1,4 +1,5 @@
 use Rattle.std.proofs.Common.{◌≡◌, ◌∙◌, ℕ, List, Option, Some, None, rules, ap, subst, sym}
+use Rattle.std.proofs.lemmas.Bool.{false≢true}
 use Rattle.zarrs_subset.specs.Regions.{Box, box_of}
 use Rattle.zarrs_chunk_grid.proofs.Chunks.{box_is_there}
 use Rattle.zarrs_data_type.specs.ArrayData.{data_of}
@@ -58,3 +59,9 @@ returns-clause-refused g c =
     (subst (λ (b : Box). IsNotEncoded layout keep b.shape (value_at state (layout.key index)) part held (refusal_of e)) c.requires.chunk.region
     (subst (λ (o : Option (List ℕ)). IsNotEncoded layout keep (box_of c.args.chunk.now.region).shape o part held (refusal_of e)) at not)))
     c.partial_encode-2.ensures.refused
+
+pub returns-in_default-clause-refusing : goal.returns-in_default-clause-refusing
+returns-in_default-clause-refusing g c = λ said. absurd (false≢true (c.in_ok-encoded.ensures.refusing said))
+
+pub returns-clause-refusing : goal.returns-clause-refusing
+returns-clause-refusing g c = λ said. absurd (false≢true (c.in_ok-encoded.ensures.refusing said))

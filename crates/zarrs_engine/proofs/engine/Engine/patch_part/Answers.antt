@@ -96,12 +96,12 @@ returns g c =
       done =
           on_ok_weaker c.patch_chunk.result (patched_shared region chunk shared part c.args.region.now.same_length c.args.chunk.now.region.same_length c.in_ok-shared.ensures.dimensions c.in_ok-shared.ensures.value shares part_is
           layout keep (TakesItself layout true region) index itself c.requires.chunk.region (data_of c.args.region_data.now) (data_of c.in_ok-data.data) c.in_ok-data.ensures old new c.requires.given)
-          c.patch_chunk.ensures.done;
+          c.patch_chunk.ensures.writes.done;
       refused =
           each_error c.patch_chunk.result (λ (e : ArrayError). LeavesPartly layout keep index part taken (refusal_of e) old new)
           (λ (e : ArrayError). LeavesPatch layout keep (TakesItself layout true region) region held index (refusal_of e) old new)
           (λ e l. shared_left region chunk shared part c.args.region.now.same_length c.args.chunk.now.region.same_length c.in_ok-shared.ensures.dimensions c.in_ok-shared.ensures.value shares part_is
           layout keep (TakesItself layout true region) index itself c.requires.chunk.region held taken c.in_ok-data.ensures old new (refusal_of e) l)
-          c.patch_chunk.ensures.refused;
-      layout_kept = c.patch_chunk.ensures.layout_kept;
+          c.patch_chunk.ensures.writes.refused;
+      layout_kept = c.patch_chunk.ensures.writes.layout_kept;
     }

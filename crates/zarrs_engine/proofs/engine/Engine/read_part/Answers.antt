@@ -1,4 +1,5 @@
 use Rattle.std.proofs.Common.{◌≡◌, Some, None, [], ◌∷◌, replicate, rules}
+use Rattle.std.proofs.lemmas.Bool.{iff_false}
 use Rattle.std.proofs.lemmas.Result.{IfOk-weaker}
 use Rattle.zarrs_subset.specs.Boxes.{position_count}
 use Rattle.zarrs_subset.specs.Regions.{Box, box_of}
@@ -57,7 +58,8 @@ returns-in-Some-clause-read g c = λ region is.
     let index = c.args.chunk_indices.now in
     let part = box_of c.args.part.now in
     let decodes : DecodesStored layout index part state (data_of c.in-Some.made) = rw c.in-Some.is at c.in_ok-made.ensures.part in
-    region_decoded layout c.args.self.now.layout.lawful index c.requires.boxed part region state is (data_of c.in-Some.made) decodes
+    let empty = iff_false c.is_empty.ensures c.if-is_empty.false in
+    region_decoded layout c.args.self.now.layout.lawful index c.requires.boxed part region state is (λ k below zero. empty (k, below, zero)) (data_of c.in-Some.made) decodes
 
 pub returns-in-None-clause-read : goal.returns-in-None-clause-read
 returns-in-None-clause-read g c =

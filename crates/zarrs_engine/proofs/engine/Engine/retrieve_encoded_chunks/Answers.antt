@@ -5,7 +5,7 @@ use Rattle.zarrs_subset.specs.Walks.{walk_number}
 use Rattle.zarrs_subset.proofs.Positions.{length-positions}
 use Rattle.zarrs_engine_calls.specs.Refusals.{refusal_of}
 use Rattle.zarrs_engine.specs.Engine.{layout_of}
-use Rattle.zarrs_engine.proofs.Encoded.{on_error, values_more, values_all, value_refused}
+use Rattle.zarrs_engine.proofs.Encoded.{keys_all, keys_more, on_error, values_more, values_all, value_refused}
 use Rattle.zarrs_engine.proofs.Ranges.{range_length}
 use Rattle.zarrs_engine.proofs.RegionSteps.{at_among}
 use Rattle.zarrs_engine.proofs.engine.Engine.retrieve_encoded_chunks.Goals as goal
@@ -60,6 +60,18 @@ returns-then-not-advance-clause-values g c =
     values_all layout state chunks (n + 1) _ last
     (values_more layout state chunks (option_map (λ v. v.items)) n (n + 1) index _ _ _ refl at i.read c.in_ok-push.ensures.items c.in_ok-value.ensures.answer)
 
+pub returns-then-not-advance-clause-accepted : goal.returns-then-not-advance-clause-accepted
+returns-then-not-advance-clause-accepted g c =
+    let layout = layout_of c.args.self.now in
+    let state = g.S.ReadableStorageTraits.state c.args.self.now.storage in
+    let chunks = positions (box_of c.args.chunks.now) in
+    let i = c.loop-walk.invariant in
+    let n = walk_number c.loop-walk.walk in
+    let index = c.current.result.now in
+    let at = subst (λ (b : Box). slice_get (positions b) n ≡ Some index) i.same_box c.current.ensures in
+    let last = subst (λ (b : Box). n + 1 ≡ length (positions b)) i.same_box c.if-not-advance.ensures.last in
+    keys_all layout state chunks (n + 1) last (keys_more layout state chunks n (n + 1) index refl at i.asked c.in_ok-value.ensures.accepted)
+
 pub loop-walk-preserved : goal.loop-walk-preserved
 loop-walk-preserved g c =
     let layout = layout_of c.args.self.now in
@@ -72,6 +84,7 @@ loop-walk-preserved g c =
     record {
       same_box = c.if-not-advance.ensures.same_box ∙ i.same_box;
       read = values_more layout state chunks (option_map (λ v. v.items)) n _ index _ _ _ c.if-not-advance.ensures.next at i.read c.in_ok-push.ensures.items c.in_ok-value.ensures.answer;
+      asked = keys_more layout state chunks n _ index c.if-not-advance.ensures.next at i.asked c.in_ok-value.ensures.accepted;
     }
 
 pub returns-then-is_err-clause-refused : goal.returns-then-is_err-clause-refused

@@ -160,7 +160,7 @@ returns g c =
     let dimensions = (part_cover layout lawful index part (box_of c.in_ok-chunk.chunk.region) (box_of c.in_ok-region.region) c.args.chunk_subset.now.same_length chunk_is region.answer chunk.accepted region.accepted).dimensions in
     let new = g.S.ReadableStorageTraits.state c.store_whole.new.self.storage in
     let fits = c.in_ok-check_cells.ensures in
-    let e = subst (λ (i : List ℕ). Writes refusal_of g.S.ReadableStorageTraits.state (StoresOneMore layout keep (box_of c.in_ok-region.region) held i) (LeavesPart layout keep (box_of c.in_ok-region.region) held i) c.args.self.now c.store_whole.new.self c.store_whole.result) chunk.answer.indices c.store_whole.ensures in
+    let e = subst (λ (i : List ℕ). Writes refusal_of g.S.ReadableStorageTraits.state (StoresOneMore layout keep (box_of c.in_ok-region.region) held i) (LeavesPart layout keep (box_of c.in_ok-region.region) held i) c.args.self.now c.store_whole.new.self c.store_whole.result) chunk.answer.indices c.store_whole.ensures.writes in
     let done : OnOk c.store_whole.result (StoresPart layout keep index part held state new) =
     on_ok_weaker c.store_whole.result (takes_part layout lawful index part (box_of c.in_ok-chunk.chunk.region) (box_of c.in_ok-region.region) c.args.chunk_subset.now.same_length chunk_is region.answer chunk.accepted region.accepted held c.eq.result c.eq.ensures keep fits.accepted fits.given state new) e.done in
     let refused : IfErr c.store_whole.result (λ (e : ArrayError). RefusesStorePart layout keep index part held (refusal_of e) state new) =
@@ -254,7 +254,7 @@ returns-then-writes_part g c =
     let within = covers_lies layout.grid lawful.grid index boxed region_box c.in_ok-region.region.same_length dimensions covers in
     takes.1 (subst (λ (b : Box). LiesInBox b region_box) (sym chunk_is) within) in
     let is : IsPatched layout asked here state index = (takes.0, subst (λ (b : Box). IsPart layout b index) at proper) in
-    let e = subst (λ (i : List ℕ). Writes refusal_of g.S.ReadableStorageTraits.state (PatchesChunk layout keep i part held) (LeavesPartly layout keep i part held) c.args.self.now c.patch_chunk.new.self c.patch_chunk.result) chunk.answer.indices c.patch_chunk.ensures in
+    let e = subst (λ (i : List ℕ). Writes refusal_of g.S.ReadableStorageTraits.state (PatchesChunk layout keep i part held) (LeavesPartly layout keep i part held) c.args.self.now c.patch_chunk.new.self c.patch_chunk.result) chunk.answer.indices c.patch_chunk.ensures.writes in
     record {
       whole = λ off. absurd (false≢true (sym off ∙ takes.0));
       partly = record {

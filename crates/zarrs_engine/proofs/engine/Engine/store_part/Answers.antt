@@ -101,7 +101,7 @@ returns g c =
       λ lies.
           takes.1 (lies_covers (box_at layout.grid index) region (box_long layout.grid index) c.args.region.now.same_length (subst (λ (b : Box). LiesInBox b region) is.region lies)),
     )) in
-    let e = c.store_whole.ensures in
+    let e = c.store_whole.ensures.writes in
     subst (λ (i : List ℕ). StoresPartOf g.S.ReadableStorageTraits.state keep c.args.parts region held i c.args.self.now c.store_whole.new.self c.store_whole.result) c.in_ok-chunk.ensures.answer.indices
     (record {
       whole = λ off. e;

@@ -63,3 +63,15 @@ returns-clause-updated g c =
     let made = data_of c.in_ok-data-2.data in
     let takes = subst (λ (b : Box). TakesCells layout.kind b region held before made) c.requires.chunk.region c.in_ok-data-2.ensures in
     updated_part layout region held index (g.S.ReadableStorageTraits.state c.args.self.now.storage) before made c.in_ok-held.ensures.cells takes
+
+-- the region does not cover the chunk, which is read
+pub returns-then-lies_in_box-clause-refusing : goal.returns-then-lies_in_box-clause-refusing
+returns-then-lies_in_box-clause-refusing g c = λ part said.
+    let layout = layout_of c.args.self.now in
+    let region = box_of c.args.region.now in
+    let index = c.args.chunk.now.indices.now in
+    let lies = subst (λ (b : Box). LiesInBox b region) c.requires.chunk.region (c.lies_in_box.ensures.0 c.if-lies_in_box.true) in
+    absurd (part (lies_covers (box_at layout.grid index) region (box_long layout.grid index) (c.args.region.now.same_length) lies))
+
+pub returns-clause-refusing : goal.returns-clause-refusing
+returns-clause-refusing g c = λ part said. absurd (false≢true (c.in_ok-held.ensures.refusing said))

@@ -1,17 +1,14 @@
 //! The callers, run.
 use crate::changes::{numbers_in, resize_and_store, upgrade};
-use crate::shards::{compact, have_equal_chunks, store_first_tile, tiles};
+use crate::checks::must;
+use crate::made::{holding, list_of};
 use crate::texts::{ages, names};
+use crate::tiles::{compact, have_equal_chunks, store_first_tile, tiles};
 use std::alloc::Global;
 use std::fmt::Debug;
 use std::ops::Range;
 use std::process::Abort;
-use zarrs::{Array, ArraySubset, Bytes, MemoryStore, StoreKey, WritableStorageTraits};
-
-/// Ends the test, except if this holds.
-fn must(rt: &impl Abort, holds: bool) {
-    assert!(rt; holds);
-}
+use zarrs::{Array, ArraySubset, MemoryStore};
 
 /// Ends the test, except if the array has these numbers in this region.
 fn must_read(
@@ -86,18 +83,14 @@ fn texts_and_missing_values_are_stored(rt: HostRuntime) {
     drop(ages);
 }
 
-fn list(rt: &impl Abort, alloc: Global, numbers: &[u64]) -> Vec<u64> {
-    numbers.to_vec(alloc).expect(rt, "no refusal")
-}
-
 /// Cells that were cut away are fill, also after the array has grown again, and when it is opened.
 #[test]
 fn an_array_is_cut_and_grows(rt: HostRuntime) {
     let alloc = rt.alloc();
     let mut array = tiles(alloc).expect(&rt, "no refusal");
     store_tile(&rt, alloc, &mut array, [1, 2, 3, 4]);
-    resize_and_store(alloc, &mut array, list(&rt, alloc, &[4, 1])).expect(&rt, "no refusal");
-    resize_and_store(alloc, &mut array, list(&rt, alloc, &[4, 6])).expect(&rt, "no refusal");
+    resize_and_store(alloc, &mut array, list_of(&rt, alloc, &[4, 1])).expect(&rt, "no refusal");
+    resize_and_store(alloc, &mut array, list_of(&rt, alloc, &[4, 6])).expect(&rt, "no refusal");
     let opened = Array::open(alloc, array.into_storage(), "/tiles").expect(&rt, "no refusal");
     must(&rt, opened.shape() == [4, 6].as_slice());
     must_read(&rt, alloc, &opened, &[0..2, 0..2], Some(&[1, 0, 3, 0]));
@@ -117,15 +110,6 @@ const V2_DOCUMENT: &[u8] = br#"{
     "compressor": null
 }"#;
 
-/// A store that holds the document.
-fn holding(rt: &impl Abort, alloc: Global) -> MemoryStore {
-    let mut storage = MemoryStore::new(alloc);
-    let key = StoreKey::new(alloc, "old/.zarray").expect(rt, "no refusal");
-    let set = storage.set(alloc, &key, Bytes::from_static(V2_DOCUMENT));
-    set.expect(rt, "no refusal");
-    storage
-}
-
 fn must_hold_one_key(rt: &impl Abort, alloc: Global, storage: &MemoryStore, wanted: &str) {
     let keys = storage.keys(alloc).expect(rt, "no refusal");
     must(
@@ -138,7 +122,7 @@ fn must_hold_one_key(rt: &impl Abort, alloc: Global, storage: &MemoryStore, want
 #[test]
 fn a_v2_array_is_upgraded(rt: HostRuntime) {
     let alloc = rt.alloc();
-    let mut storage = holding(&rt, alloc);
+    let mut storage = holding(&rt, alloc, "old/.zarray", V2_DOCUMENT);
     upgrade(alloc, &mut storage, "/old").expect(&rt, "no refusal");
     must_hold_one_key(&rt, alloc, &storage, "old/zarr.json");
     let array = Array::open(alloc, storage, "/old").expect(&rt, "no refusal");
