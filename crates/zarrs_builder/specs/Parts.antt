@@ -18,7 +18,7 @@ found_fields f = record {
   chunk_grid = grid_given f.chunk_grid.now;
   data_type = type_given f.data_type.now;
   fill_value = fill_given f.fill_value.now;
-  dimension_names = option_map (λ names. map name_view names.now) f.dimension_names;
+  dimension_names = option_map (λ names. map name_view names.items) f.dimension_names.now;
   subchunk_shape = option_map (λ shape. shape.now) f.subchunk_shape;
 }
 

@@ -16,7 +16,7 @@ ghost use Rattle.zarrs_builder.specs.Given.{type_given, by_metadata, fill_given}
 ghost use Rattle.zarrs_builder.specs.declared.builder.ArrayBuilder.{ArrayBuilder};
 
 use super::{ArrayBuilder, grid_field};
-use crate::copies::{copied_codecs, copied_dimension_names, copied_fields};
+use crate::copies::copied_codecs;
 use crate::data_type::ArrayBuilderDataType;
 use crate::fill_value::{ArrayBuilderFillValue, IntoFillValue};
 use serde_json::{Map, Value};
@@ -27,6 +27,7 @@ use zarrs_data_type::{DataTypeFillValueError, IntoField};
 use zarrs_keys::ChunkKeyEncoding;
 use zarrs_metadata::{AdditionalFieldsV3, ArrayMetadata, DimensionName, FillValueMetadata};
 use zarrs_metadata_parts::members::copied;
+use zarrs_metadata_v3::{copied_dimension_names, copied_fields};
 use zarrs_options::{ArrayBuilderChunkGridMetadata, ArrayCreateError, StorageTransformerChain};
 use zarrs_subset::ArrayShape;
 
@@ -96,7 +97,7 @@ fn copied_from<TStorage>(alloc: Global, array: &Array<TStorage>) -> Result<Copie
     let shape = Vec::from_slice(alloc, array.shape())?;
     let chunk_grid = grid_field(alloc, array.chunk_grid())?;
     let data_type = array.data_type().try_clone(alloc)?.into_field(alloc)?;
-    let dimension_names = copied_dimension_names(alloc, array.dimension_names())?;
+    let dimension_names = names_of_metadata(alloc, array.metadata())?;
     Ok(CopiedFields {
         shape,
         chunk_grid,
@@ -161,6 +162,20 @@ fn fill_metadata<TStorage>(
         Ok(metadata) => Ok(metadata),
         Err(DataTypeFillValueError::OutOfMemory) => Err(AllocError),
         Err(DataTypeFillValueError::Invalid) => unreachable!(),
+    }
+}
+
+/// Returns a copy of the names of dimensions. V2 metadata has none.
+fn names_of_metadata(
+    alloc: Global,
+    metadata: &ArrayMetadata,
+) -> Result<Option<Vec<DimensionName>>, AllocError>
+    ensures { IfOk result (λ names. option_map (λ n. map name_view n.items) names
+        ≡ dimension_names_of (metadata_view metadata.now)) }
+{
+    match metadata {
+        ArrayMetadata::V3(document) => copied_dimension_names(alloc, &document.dimension_names),
+        ArrayMetadata::V2(_) => Ok(None),
     }
 }
 

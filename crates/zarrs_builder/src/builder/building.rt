@@ -11,7 +11,7 @@ ghost use Rattle.zarrs_codec_array.specs.ArrayCodecs.{array_codec_data};
 ghost use Rattle.zarrs_codec.specs.ShardingMetadata.{sizes_of};
 ghost use Rattle.zarrs_codec.specs.Chains.{bytes_codec_data, chain_data};
 ghost use Rattle.zarrs_codec.specs.Configurations.{sharding};
-ghost use Rattle.zarrs_metadata_v3.specs.View.{document_view, name_view};
+ghost use Rattle.zarrs_metadata_v3.specs.View.{document_view};
 ghost use Rattle.zarrs_options.specs.Given.{grid_given};
 ghost use Rattle.zarrs_options.specs.Refusals.{RefusesCreation, create_refusal_of, said_or};
 ghost use Rattle.zarrs_options.specs.Refusals as refusal;
@@ -20,7 +20,7 @@ ghost use Rattle.zarrs_builder.specs.Built.{chain_chosen, codec_chosen, cut_into
 ghost use Rattle.zarrs_builder.specs.Built.{fill_stated, sizes_said};
 
 use super::ArrayBuilder;
-use crate::copies::{copied_codecs, copied_dimension_names, copied_fields};
+use crate::copies::copied_codecs;
 use crate::data_type::ArrayBuilderDataType;
 use crate::fill_value::ArrayBuilderFillValue;
 use std::alloc::{AllocError, Global};
@@ -31,13 +31,13 @@ use zarrs_codec::{
     ArrayToArrayCodec, ArrayToBytesCodec, BytesToBytesCodecs, CodecChain, ShardingCodecBuilder,
     default_array_to_bytes_codec,
 };
+use zarrs_creation::{check_names, grid_from};
 use zarrs_data_type::{DataType, DataTypeFillValueError, FillValue};
 use zarrs_data_type_kinds::laws::written_fill_value_is_read;
 use zarrs_keys::NodePath;
-use zarrs_metadata::{
-    ArrayMetadata, ArrayMetadataV3, DimensionName, FillValueMetadata, PluginCreateError,
-};
+use zarrs_metadata::{ArrayMetadata, ArrayMetadataV3, DimensionName, FillValueMetadata};
 use zarrs_metadata_parts::members::copied;
+use zarrs_metadata_v3::{copied_dimension_names, copied_fields};
 use zarrs_options::{ArrayBuilderChunkGridMetadata, ArrayCreateError};
 
 /// The fields that callers' values became, each of which found memory.
@@ -47,7 +47,7 @@ struct Fields<'a> {
     chunk_grid: &'a ArrayBuilderChunkGridMetadata,
     data_type: &'a ArrayBuilderDataType,
     fill_value: &'a ArrayBuilderFillValue,
-    dimension_names: Option<&'a [DimensionName]>,
+    dimension_names: &'a Option<Vec<DimensionName>>,
     subchunk_shape: Option<&'a [u64]>,
 }
 
@@ -63,13 +63,10 @@ struct Chosen {
 }
 
 impl ArrayBuilder {
-    ghost use Rattle.zarrs_metadata.specs.Versions.{v3};
-    ghost use Rattle.zarrs.specs.Arrays.{meaning_of_array, metadata_of_array, path_of_array};
-    ghost use Rattle.zarrs.specs.Arrays.{storage_of_array, HasSpecificOptions};
     ghost use Rattle.zarrs_builder.specs.Builders.{builder_view, fields_of};
     ghost use Rattle.zarrs_builder.specs.Built.{chosen, codecs_chosen, document_with};
     ghost use Rattle.zarrs_builder.specs.Built.{document_of_fields, parts_of_fields, SaysChosen};
-    ghost use Rattle.zarrs_builder.specs.Built.{built, built_at, built_metadata};
+    ghost use Rattle.zarrs_builder.specs.Built.{built, BuildsArray};
     ghost use Rattle.zarrs_builder.specs.Parts.{found_fields, chosen_view};
 
     /// Returns the V3 metadata of the array: the data type, the chunk grid and the codecs by their main names, and the
@@ -102,17 +99,7 @@ impl ArrayBuilder {
         storage: TStorage,
         path: &str,
     ) -> Result<Array<TStorage>, ArrayCreateError>
-        ensures metadata { IfOk result
-            (λ a. built_metadata (builder_view self.now) ≡ Ok (metadata_of_array a)) }
-        // Its grid, its keys, its chain, its type and its fill value are the builder's own.
-        ensures parts { IfOk result
-            (λ a. built_at path.now (builder_view self.now) ≡ Ok (meaning_of_array a)) }
-        ensures path { IfOk result (λ a. path_of_array a ≡ path.now) }
-        ensures storage { IfOk result (λ a. storage_of_array a ≡ storage) }
-        ensures options { IfOk result
-            (HasSpecificOptions (builder_view self.now).codec_specific_options) }
-        ensures refused { IfErr result (λ e. RefusesCreation
-            (built_at path.now (builder_view self.now)) (create_refusal_of e)) }
+        ensures { BuildsArray (builder_view self.now) path.now storage result }
     {
         let fields = self.fields()?;
         check_path(alloc, path)?;
@@ -131,17 +118,7 @@ impl ArrayBuilder {
         storage: TStorage,
         path: &str,
     ) -> Result<Array<TStorage>, ArrayCreateError>
-        ensures metadata { IfOk result
-            (λ a. built_metadata (builder_view self.now) ≡ Ok (metadata_of_array a)) }
-        // Its grid, its keys, its chain, its type and its fill value are the builder's own.
-        ensures parts { IfOk result
-            (λ a. built_at path.now (builder_view self.now) ≡ Ok (meaning_of_array a)) }
-        ensures path { IfOk result (λ a. path_of_array a ≡ path.now) }
-        ensures storage { IfOk result (λ a. storage_of_array a ≡ storage) }
-        ensures options { IfOk result
-            (HasSpecificOptions (builder_view self.now).codec_specific_options) }
-        ensures refused { IfErr result (λ e. RefusesCreation
-            (built_at path.now (builder_view self.now)) (create_refusal_of e)) }
+        ensures { BuildsArray (builder_view self.now) path.now storage result }
     {
         self.build(alloc, storage, path)
     }
@@ -152,19 +129,13 @@ impl ArrayBuilder {
             (λ f. fields_of (builder_view self.now) ≡ Some (found_fields f)) }
         ensures refused { IfErr result (λ e. e ≡ ArrayCreateError.OutOfMemory) }
     {
-        let shape = found(&self.shape)?;
-        let chunk_grid = found(&self.chunk_grid)?;
-        let data_type = found(&self.data_type)?;
-        let fill_value = found(&self.fill_value)?;
-        let dimension_names = found(&self.dimension_names)?;
-        let subchunk_shape = found(&self.subchunk_shape)?;
         Ok(Fields {
-            shape: shape.as_slice(),
-            chunk_grid,
-            data_type,
-            fill_value,
-            dimension_names: names_in(dimension_names),
-            subchunk_shape: shape_in(subchunk_shape),
+            shape: found(&self.shape)?.as_slice(),
+            chunk_grid: found(&self.chunk_grid)?,
+            data_type: found(&self.data_type)?,
+            fill_value: found(&self.fill_value)?,
+            dimension_names: found(&self.dimension_names)?,
+            subchunk_shape: shape_in(found(&self.subchunk_shape)?),
         })
     }
 
@@ -288,16 +259,6 @@ fn found<T>(field: &Result<T, AllocError>) -> Result<&T, ArrayCreateError>
     }
 }
 
-fn names_in(names: &Option<Vec<DimensionName>>) -> Option<&[DimensionName]>
-    ensures { option_map (λ n. map name_view n.now) result
-        ≡ option_map (λ n. map name_view n.items) names.now }
-{
-    match names {
-        Some(names) => Some(names.as_slice()),
-        None => None,
-    }
-}
-
 fn shape_in(shape: &Option<Vec<u64>>) -> Option<&[u64]>
     ensures { option_map (λ s. s.now) result ≡ option_map (λ s. s.items) shape.now }
 {
@@ -388,28 +349,7 @@ fn grid_over(
         (grid_chosen (grid_given given.now) shape.now)) (create_refusal_of e)) }
 {
     let metadata = given.to_metadata(alloc)?;
-    match ChunkGrid::from_metadata(alloc, &metadata, shape) {
-        Ok(grid) => Ok(grid),
-        Err(PluginCreateError::OutOfMemory) => Err(ArrayCreateError::OutOfMemory),
-        Err(error) => Err(ArrayCreateError::ChunkGridCreateError(error)),
-    }
-}
-
-/// Checks that there are as many names as dimensions, if there are names.
-fn check_names(dimensions: usize, names: Option<&[DimensionName]>) -> Result<(), ArrayCreateError>
-    ensures made { OnOk result
-        (names_said dimensions (option_map (λ n. map name_view n.now) names.entry) ≡ Ok tt) }
-    ensures refused { IfErr result (λ e. RefusesCreation
-        (names_said dimensions (option_map (λ n. map name_view n.now) names.entry))
-        (create_refusal_of e)) }
-{
-    let Some(names) = names else {
-        return Ok(());
-    };
-    if names.len() == dimensions {
-        return Ok(());
-    }
-    Err(ArrayCreateError::InvalidDimensionNames(names.len(), dimensions))
+    grid_from(alloc, &metadata, shape)
 }
 
 /// Returns the metadata of the fill value, if its bytes are a value of the data type.
@@ -426,7 +366,7 @@ fn stated_fill(
         (fill_stated (kind data_type.now) fill_value.now) (create_refusal_of e)) }
 {
     if !fill_value.is_value_of(data_type) {
-        return Err(invalid_fill(alloc, data_type, fill_value));
+        return Err(invalid_fill(alloc, data_type, fill_value)?);
     }
     written_fill_value_is_read(data_type, fill_value);
     match data_type.metadata_fill_value(alloc, fill_value) {
@@ -437,18 +377,16 @@ fn stated_fill(
 }
 
 /// Makes the refusal of these bytes as a fill value of the data type.
-fn invalid_fill(alloc: Global, data_type: &DataType, fill_value: &FillValue) -> ArrayCreateError
-    ensures { RefusesCreation (said_or {A = Unit {0}} (refusal.fill_value
-        (kind_name (kind data_type.now)) fill_value.now) None) (create_refusal_of result) }
+fn invalid_fill(
+    alloc: Global,
+    data_type: &DataType,
+    fill_value: &FillValue,
+) -> Result<ArrayCreateError, AllocError>
+    ensures { IfOk result (λ e. RefusesCreation (said_or {A = Unit {0}} (refusal.fill_value
+        (kind_name (kind data_type.now)) fill_value.now) None) (create_refusal_of e)) }
 {
-    let Ok(data_type_name) = data_type.name_v3(alloc) else {
-        return ArrayCreateError::OutOfMemory;
-    };
-    let Ok(fill_value) = fill_value.try_clone(alloc) else {
-        return ArrayCreateError::OutOfMemory;
-    };
-    ArrayCreateError::InvalidFillValue {
-        data_type_name,
-        fill_value,
-    }
+    Ok(ArrayCreateError::InvalidFillValue {
+        data_type_name: data_type.name_v3(alloc)?,
+        fill_value: fill_value.try_clone(alloc)?,
+    })
 }
