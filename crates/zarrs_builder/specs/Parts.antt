@@ -19,7 +19,7 @@ found_fields f = record {
   data_type = type_given f.data_type.now;
   fill_value = fill_given f.fill_value.now;
   dimension_names = option_map (λ names. map name_view names.items) f.dimension_names.now;
-  subchunk_shape = option_map (λ shape. shape.now) f.subchunk_shape;
+  subchunk_shape = option_map (λ shape. shape.items) f.subchunk_shape.now;
 }
 
 abbrev pub chosen_view : Chosen → ChosenData

@@ -44,18 +44,13 @@ impl ArrayBuilderDataType {
             GivenType::Metadata(metadata) => data_type_from(alloc, metadata),
             GivenType::Text(text) => match extension_of_text(alloc, text.as_str())? {
                 Some(metadata) => data_type_from(alloc, &metadata),
-                None => Err(no_metadata(alloc)?),
+                None => {
+                    let text = String::from_str(alloc, "the text is no metadata of a data type")?;
+                    Err(ArrayCreateError::DataTypeCreateError(PluginCreateError::Other(text)))
+                }
             },
         }
     }
-}
-
-fn no_metadata(alloc: Global) -> Result<ArrayCreateError, AllocError>
-    ensures { IfOk result (λ e. RefusesCreation (said_or {A = Unit {0}} refusal.data_type None)
-        (create_refusal_of e)) }
-{
-    let text = String::from_str(alloc, "the text is no metadata of a data type")?;
-    Ok(ArrayCreateError::DataTypeCreateError(PluginCreateError::Other(text)))
 }
 
 impl IntoField<ArrayBuilderDataType> for ArrayBuilderDataType {

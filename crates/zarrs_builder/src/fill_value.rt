@@ -46,7 +46,10 @@ impl ArrayBuilderFillValue {
     {
         match &self.0 {
             GivenFill::FillValue(fill_value) => Ok(fill_value.try_clone(alloc)?),
-            GivenFill::Metadata(metadata) => value_of_metadata(alloc, data_type, metadata),
+            GivenFill::Metadata(metadata) => {
+                let name = data_type.name_v3(alloc)?;
+                fill_value_from(alloc, data_type, name.as_str(), metadata)
+            }
         }
     }
 
@@ -68,22 +71,6 @@ impl ArrayBuilderFillValue {
         }
         Ok(ArrayBuilderFillValue::of_value(Value::Array(values)))
     }
-}
-
-/// Returns the fill value of the data type that the metadata says.
-fn value_of_metadata(
-    alloc: Global,
-    data_type: &DataType,
-    metadata: &FillValueMetadata,
-) -> Result<FillValue, ArrayCreateError>
-    ensures made { IfOk result
-        (λ f. fill_chosen (kind data_type.now) (by_metadata (fill_data metadata.now)) ≡ Ok f) }
-    ensures refused { IfErr result (λ e. RefusesCreation
-        (fill_chosen (kind data_type.now) (by_metadata (fill_data metadata.now)))
-        (create_refusal_of e)) }
-{
-    let name = data_type.name_v3(alloc)?;
-    fill_value_from(alloc, data_type, name.as_str(), metadata)
 }
 
 /// A value that becomes the fill value of a builder, in memory of the allocator.

@@ -19,7 +19,7 @@ ghost use Rattle.zarrs_creation.specs.Meanings.{creation_v3, names_said, path_sa
 ghost use Rattle.zarrs_builder.specs.Built.{chain_chosen, codec_chosen, cut_into, grid_chosen};
 ghost use Rattle.zarrs_builder.specs.Built.{fill_stated, sizes_said};
 
-use super::ArrayBuilder;
+use super::{ArrayBuilder, fill_metadata};
 use crate::copies::copied_codecs;
 use crate::data_type::ArrayBuilderDataType;
 use crate::fill_value::ArrayBuilderFillValue;
@@ -28,17 +28,18 @@ use std::num::NonZeroU64;
 use zarrs::Array;
 use zarrs_chunk_grid::{ChunkGrid, ChunkGridTraits, ChunkShape};
 use zarrs_codec::{
-    ArrayToArrayCodec, ArrayToBytesCodec, BytesToBytesCodecs, CodecChain, ShardingCodecBuilder,
+    ArrayToBytesCodec, BytesToBytesCodecs, CodecChain, ShardingCodec, ShardingIndexLocation,
     default_array_to_bytes_codec,
 };
 use zarrs_creation::{check_names, grid_from};
-use zarrs_data_type::{DataType, DataTypeFillValueError, FillValue};
+use zarrs_data_type::{DataType, FillValue};
 use zarrs_data_type_kinds::laws::written_fill_value_is_read;
 use zarrs_keys::NodePath;
 use zarrs_metadata::{ArrayMetadata, ArrayMetadataV3, DimensionName, FillValueMetadata};
 use zarrs_metadata_parts::members::copied;
 use zarrs_metadata_v3::{copied_dimension_names, copied_fields};
 use zarrs_options::{ArrayBuilderChunkGridMetadata, ArrayCreateError};
+use zarrs_subset::ArrayShape;
 
 /// The fields that callers' values became, each of which found memory.
 #[derive(Drop)]
@@ -48,7 +49,7 @@ struct Fields<'a> {
     data_type: &'a ArrayBuilderDataType,
     fill_value: &'a ArrayBuilderFillValue,
     dimension_names: &'a Option<Vec<DimensionName>>,
-    subchunk_shape: Option<&'a [u64]>,
+    subchunk_shape: &'a Option<ArrayShape>,
 }
 
 /// What the fields say.
@@ -102,7 +103,7 @@ impl ArrayBuilder {
         ensures { BuildsArray (builder_view self.now) path.now storage result }
     {
         let fields = self.fields()?;
-        check_path(alloc, path)?;
+        drop(NodePath::new(alloc, path)?);
         let metadata = self.metadata_of(alloc, &fields)?;
         let array = Array::new_with_metadata(alloc, storage, path, ArrayMetadata::V3(metadata))?;
         Ok(array.with_codec_specific_options(&self.codec_specific_options))
@@ -135,7 +136,7 @@ impl ArrayBuilder {
             data_type: found(&self.data_type)?,
             fill_value: found(&self.fill_value)?,
             dimension_names: found(&self.dimension_names)?,
-            subchunk_shape: shape_in(found(&self.subchunk_shape)?),
+            subchunk_shape: found(&self.subchunk_shape)?,
         })
     }
 
@@ -188,24 +189,34 @@ impl ArrayBuilder {
     fn chain_for(
         &self,
         alloc: Global,
-        subchunk_shape: Option<&[u64]>,
+        subchunk_shape: &Option<ArrayShape>,
         data_type: &DataType,
     ) -> Result<CodecChain, ArrayCreateError>
         ensures made { IfOk result (λ chain. chain_chosen
-            (option_map (λ shape. shape.now) subchunk_shape.entry)
+            (option_map (λ shape. shape.items) subchunk_shape.now)
             (codecs_chosen (builder_view self.now) (kind data_type.now)) ≡ Ok (chain_data chain)) }
         ensures refused { IfErr result (λ e. RefusesCreation (chain_chosen
-            (option_map (λ shape. shape.now) subchunk_shape.entry)
+            (option_map (λ shape. shape.items) subchunk_shape.now)
             (codecs_chosen (builder_view self.now) (kind data_type.now))) (create_refusal_of e)) }
     {
+        let codecs = self.codecs_for(alloc, data_type)?;
+        match subchunk_shape {
+            Some(shape) => Ok(cut_chain(alloc, subchunk_sizes(alloc, shape)?, codecs)?),
+            None => Ok(codecs),
+        }
+    }
+
+    /// Returns the codecs that are set, with the default one of the data type if none makes bytes.
+    fn codecs_for(&self, alloc: Global, data_type: &DataType) -> Result<CodecChain, AllocError>
+        ensures { IfOk result (λ chain. chain_data chain
+            ≡ codecs_chosen (builder_view self.now) (kind data_type.now)) }
+    {
         let front = copied_codecs(alloc, &self.array_to_array_codecs)?;
-        let last = codec_for(alloc, &self.array_to_bytes_codec, data_type)?;
-        let Some(shape) = subchunk_shape else {
-            return Ok(CodecChain::new(front, last, BytesToBytesCodecs));
+        let last = match &self.array_to_bytes_codec {
+            Some(codec) => codec.try_clone(alloc)?,
+            None => default_array_to_bytes_codec(alloc, data_type)?,
         };
-        let sizes = subchunk_sizes(alloc, shape)?;
-        let chain = cut_chain(alloc, sizes, front, last, data_type)?;
-        Ok(chain)
+        Ok(CodecChain::new(front, last, BytesToBytesCodecs))
     }
 
     /// Returns the metadata of what was chosen, and of the other parts.
@@ -259,39 +270,6 @@ fn found<T>(field: &Result<T, AllocError>) -> Result<&T, ArrayCreateError>
     }
 }
 
-fn shape_in(shape: &Option<Vec<u64>>) -> Option<&[u64]>
-    ensures { option_map (λ s. s.now) result ≡ option_map (λ s. s.items) shape.now }
-{
-    match shape {
-        Some(shape) => Some(shape.as_slice()),
-        None => None,
-    }
-}
-
-fn check_path(alloc: Global, path: &str) -> Result<(), ArrayCreateError>
-    ensures made { OnOk result (path_said path.now ≡ Ok tt) }
-    ensures refused { IfErr result
-        (λ e. RefusesCreation (path_said path.now) (create_refusal_of e)) }
-{
-    drop(NodePath::new(alloc, path)?);
-    Ok(())
-}
-
-/// Returns the codec that is set, or the default one of the data type.
-fn codec_for(
-    alloc: Global,
-    codec: &Option<ArrayToBytesCodec>,
-    data_type: &DataType,
-) -> Result<ArrayToBytesCodec, AllocError>
-    ensures { IfOk result (λ c. bytes_codec_data c ≡ codec_chosen
-        (option_map bytes_codec_data codec.now) (kind data_type.now)) }
-{
-    if let Some(codec) = codec {
-        return codec.try_clone(alloc);
-    }
-    default_array_to_bytes_codec(alloc, data_type)
-}
-
 /// Returns the sizes of subchunks of this shape.
 fn subchunk_sizes(alloc: Global, shape: &[u64]) -> Result<ChunkShape, ArrayCreateError>
     ensures made { IfOk result (λ sizes. sizes_of sizes.items ≡ shape.now) }
@@ -314,26 +292,14 @@ fn subchunk_sizes(alloc: Global, shape: &[u64]) -> Result<ChunkShape, ArrayCreat
 fn cut_chain(
     alloc: Global,
     subchunk_shape: ChunkShape,
-    array_to_array: Vec<ArrayToArrayCodec>,
-    array_to_bytes: ArrayToBytesCodec,
-    data_type: &DataType,
+    codecs: CodecChain,
 ) -> Result<CodecChain, AllocError>
     ensures { IfOk result (λ chain. chain_data chain
-        ≡ cut_into (sizes_of subchunk_shape.items) (record {
-          array_to_array = map array_codec_data array_to_array.items;
-          array_to_bytes = bytes_codec_data array_to_bytes;
-        })) }
+        ≡ cut_into (sizes_of subchunk_shape.items) (chain_data codecs)) }
 {
-    let mut builder = ShardingCodecBuilder::new(alloc, subchunk_shape, data_type)?;
-    builder
-        .array_to_array_codecs(array_to_array)
-        .array_to_bytes_codec(array_to_bytes);
-    let codec = Box::new(alloc, builder.build(alloc)?)?;
-    Ok(CodecChain::new(
-        Vec::new(alloc),
-        ArrayToBytesCodec::Sharding(codec),
-        BytesToBytesCodecs,
-    ))
+    let codec = ShardingCodec::new(subchunk_shape, ShardingIndexLocation::End, codecs);
+    let codec = ArrayToBytesCodec::Sharding(Box::new(alloc, codec)?);
+    Ok(CodecChain::new(Vec::new(alloc), codec, BytesToBytesCodecs))
 }
 
 /// Returns the grid over an array of this shape.
@@ -366,27 +332,11 @@ fn stated_fill(
         (fill_stated (kind data_type.now) fill_value.now) (create_refusal_of e)) }
 {
     if !fill_value.is_value_of(data_type) {
-        return Err(invalid_fill(alloc, data_type, fill_value)?);
+        return Err(ArrayCreateError::InvalidFillValue {
+            data_type_name: data_type.name_v3(alloc)?,
+            fill_value: fill_value.try_clone(alloc)?,
+        });
     }
     written_fill_value_is_read(data_type, fill_value);
-    match data_type.metadata_fill_value(alloc, fill_value) {
-        Ok(metadata) => Ok(metadata),
-        Err(DataTypeFillValueError::OutOfMemory) => Err(ArrayCreateError::OutOfMemory),
-        Err(DataTypeFillValueError::Invalid) => unreachable!(),
-    }
-}
-
-/// Makes the refusal of these bytes as a fill value of the data type.
-fn invalid_fill(
-    alloc: Global,
-    data_type: &DataType,
-    fill_value: &FillValue,
-) -> Result<ArrayCreateError, AllocError>
-    ensures { IfOk result (λ e. RefusesCreation (said_or {A = Unit {0}} (refusal.fill_value
-        (kind_name (kind data_type.now)) fill_value.now) None) (create_refusal_of e)) }
-{
-    Ok(ArrayCreateError::InvalidFillValue {
-        data_type_name: data_type.name_v3(alloc)?,
-        fill_value: fill_value.try_clone(alloc)?,
-    })
+    Ok(fill_metadata(alloc, data_type, fill_value)?)
 }

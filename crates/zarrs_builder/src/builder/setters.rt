@@ -146,11 +146,10 @@ impl ArrayBuilder {
     }
 
     /// Sets the codecs that make bytes of bytes: there is none.
-    pub fn bytes_to_bytes_codecs(&mut self, bytes_to_bytes_codecs: BytesToBytesCodecs) -> &mut Self
+    pub fn bytes_to_bytes_codecs(&mut self, _codecs: BytesToBytesCodecs) -> &mut Self
         ensures same_loan { result.ghost_name ≡ self.entry.ghost_name }
         ensures kept { builder_view result.now ≡ builder_view self.old }
     {
-        self.bytes_to_bytes_codecs = bytes_to_bytes_codecs;
         self
     }
 
@@ -244,11 +243,10 @@ impl ArrayBuilder {
     }
 
     /// Sets the storage transformers: there is none.
-    pub fn storage_transformers(&mut self, transformers: StorageTransformerChain) -> &mut Self
+    pub fn storage_transformers(&mut self, _transformers: StorageTransformerChain) -> &mut Self
         ensures same_loan { result.ghost_name ≡ self.entry.ghost_name }
         ensures kept { builder_view result.now ≡ builder_view self.old }
     {
-        self.storage_transformers = transformers;
         self
     }
 }
