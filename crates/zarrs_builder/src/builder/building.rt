@@ -52,17 +52,6 @@ struct Fields<'a> {
     subchunk_shape: &'a Option<ArrayShape>,
 }
 
-/// What the fields say.
-#[derive(Drop)]
-struct Chosen {
-    data_type: DataType,
-    chain: CodecChain,
-    grid: ChunkGrid,
-    fill_value: FillValue,
-    /// The metadata of the fill value.
-    stated: FillValueMetadata,
-}
-
 impl ArrayBuilder {
     ghost use Rattle.zarrs_builder.specs.Builders.{builder_view, fields_of};
     ghost use Rattle.zarrs_builder.specs.Built.{chosen, codecs_chosen, document_with};
@@ -82,9 +71,7 @@ impl ArrayBuilder {
         ensures refused { IfErr result (λ e. RefusesCreation
             (built (builder_view self.now)) (create_refusal_of e)) }
     {
-        let fields = self.fields()?;
-        let metadata = self.metadata_of(alloc, &fields)?;
-        Ok(metadata)
+        self.metadata_of(alloc, &self.fields()?)
     }
 
     /// Makes the array at the path of the store, with the metadata of `build_metadata`, the builder's options of single
@@ -153,35 +140,23 @@ impl ArrayBuilder {
         ensures refused { IfErr result (λ e. RefusesCreation (chosen (builder_view self.now)
             (found_fields fields.now)) (create_refusal_of e)) }
     {
-        let chosen = self.chosen(alloc, fields)?;
-        let metadata = self.document(alloc, fields, chosen)?;
-        Ok(metadata)
-    }
-
-    /// Returns what the fields say.
-    fn chosen(&self, alloc: Global, fields: &Fields<'_>) -> Result<Chosen, ArrayCreateError>
-        ensures made { IfOk result (λ c. chosen (builder_view self.now)
-            (found_fields fields.now) ≡ Ok (chosen_view c)) }
-        ensures over { IfOk result (λ c. array_extents_of c.grid ≡ (found_fields fields.now).shape) }
-        ensures named { OnOk result (names_said (length (found_fields fields.now).shape)
-            (found_fields fields.now).dimension_names ≡ Ok tt) }
-        ensures read { IfOk result
-            (λ c. fill_said (kind c.data_type) (fill_data c.stated) ≡ Some c.fill_value) }
-        ensures refused { IfErr result (λ e. RefusesCreation (chosen (builder_view self.now)
-            (found_fields fields.now)) (create_refusal_of e)) }
-    {
         let data_type = fields.data_type.to_data_type(alloc)?;
         let chain = self.chain_for(alloc, fields.subchunk_shape, &data_type)?;
         let grid = grid_over(alloc, fields.chunk_grid, fields.shape)?;
         let fill_value = fields.fill_value.to_fill_value(alloc, &data_type)?;
         check_names(fields.shape.len(), fields.dimension_names)?;
         let stated = stated_fill(alloc, &data_type, &fill_value)?;
-        Ok(Chosen {
-            data_type,
-            chain,
-            grid,
-            fill_value,
-            stated,
+        Ok(ArrayMetadataV3 {
+            shape: Vec::from_slice(alloc, fields.shape)?,
+            data_type: data_type.metadata(alloc)?,
+            chunk_grid: grid.metadata(alloc)?,
+            chunk_key_encoding: self.chunk_key_encoding.metadata(alloc)?,
+            fill_value: stated,
+            codecs: chain.create_metadatas(alloc)?,
+            attributes: copied(&self.attributes)?,
+            storage_transformers: Vec::new(alloc),
+            dimension_names: copied_dimension_names(alloc, fields.dimension_names)?,
+            additional_fields: copied_fields(&self.additional_fields)?,
         })
     }
 
@@ -217,45 +192,6 @@ impl ArrayBuilder {
             None => default_array_to_bytes_codec(alloc, data_type)?,
         };
         Ok(CodecChain::new(front, last, BytesToBytesCodecs))
-    }
-
-    /// Returns the metadata of what was chosen, and of the other parts.
-    fn document(
-        &self,
-        alloc: Global,
-        fields: &Fields<'_>,
-        chosen: Chosen,
-    ) -> Result<ArrayMetadataV3, AllocError>
-        requires over { array_extents_of chosen.grid ≡ (found_fields fields.now).shape }
-        requires named { names_said (length (found_fields fields.now).shape)
-            (found_fields fields.now).dimension_names ≡ Ok tt }
-        requires read { fill_said (kind chosen.data_type) (fill_data chosen.stated)
-            ≡ Some chosen.fill_value }
-        ensures written { IfOk result (λ m. document_view m ≡ document_with (builder_view self.now)
-            (found_fields fields.now) (chosen_view chosen)) }
-        ensures says { IfOk result (λ m. creation_v3 (document_view m) ≡ parts_of_fields
-            (builder_view self.now) (found_fields fields.now) (chosen_view chosen)) }
-    {
-        let shape = Vec::from_slice(alloc, fields.shape)?;
-        let data_type = chosen.data_type.metadata(alloc)?;
-        let chunk_grid = chosen.grid.metadata(alloc)?;
-        let chunk_key_encoding = self.chunk_key_encoding.metadata(alloc)?;
-        let codecs = chosen.chain.create_metadatas(alloc)?;
-        let attributes = copied(&self.attributes)?;
-        let dimension_names = copied_dimension_names(alloc, fields.dimension_names)?;
-        let additional_fields = copied_fields(&self.additional_fields)?;
-        Ok(ArrayMetadataV3 {
-            shape,
-            data_type,
-            chunk_grid,
-            chunk_key_encoding,
-            fill_value: chosen.stated,
-            codecs,
-            attributes,
-            storage_transformers: Vec::new(alloc),
-            dimension_names,
-            additional_fields,
-        })
     }
 }
 
