@@ -1,22 +1,16 @@
 //! Metadata and arrays of a builder.
-ghost use Rattle.std.specs.Prelude.{◌≡◌, false, map, option_map, length, Some, None, Ok, IfOk, IfErr, OnOk};
+ghost use Rattle.std.specs.Prelude.{◌≡◌, option_map, Some, Ok, IfOk, IfErr};
 ghost use Rattle.zarrs_metadata_parts.specs.FillValue.{fill_data};
-ghost use Rattle.zarrs_keys.specs.Paths.{is_node_path};
 ghost use Rattle.zarrs_chunk_grid.specs.GridView.{array_extents_of, configuration_of};
-ghost use Rattle.zarrs_chunk_grid.specs.Metadata.{grid_said};
 ghost use Rattle.zarrs_data_type.specs.FillMetadata.{fill_said};
 ghost use Rattle.zarrs_data_type.specs.Kind.{kind};
-ghost use Rattle.zarrs_data_type.specs.TypeMetadata.{kind_name};
-ghost use Rattle.zarrs_codec_array.specs.ArrayCodecs.{array_codec_data};
 ghost use Rattle.zarrs_codec.specs.ShardingMetadata.{sizes_of};
-ghost use Rattle.zarrs_codec.specs.Chains.{bytes_codec_data, chain_data};
-ghost use Rattle.zarrs_codec.specs.Configurations.{sharding};
+ghost use Rattle.zarrs_codec.specs.Chains.{chain_data};
 ghost use Rattle.zarrs_metadata_v3.specs.View.{document_view};
 ghost use Rattle.zarrs_options.specs.Given.{grid_given};
 ghost use Rattle.zarrs_options.specs.Refusals.{RefusesCreation, create_refusal_of, said_or};
 ghost use Rattle.zarrs_options.specs.Refusals as refusal;
-ghost use Rattle.zarrs_creation.specs.Meanings.{creation_v3, names_said, path_said};
-ghost use Rattle.zarrs_builder.specs.Built.{chain_chosen, codec_chosen, cut_into, grid_chosen};
+ghost use Rattle.zarrs_builder.specs.Built.{chain_chosen, cut_into, grid_chosen};
 ghost use Rattle.zarrs_builder.specs.Built.{fill_stated, sizes_said};
 
 use super::{ArrayBuilder, fill_metadata};
@@ -53,11 +47,9 @@ struct Fields<'a> {
 }
 
 impl ArrayBuilder {
-    ghost use Rattle.zarrs_builder.specs.Builders.{builder_view, fields_of};
-    ghost use Rattle.zarrs_builder.specs.Built.{chosen, codecs_chosen, document_with};
-    ghost use Rattle.zarrs_builder.specs.Built.{document_of_fields, parts_of_fields, SaysChosen};
-    ghost use Rattle.zarrs_builder.specs.Built.{built, BuildsArray};
-    ghost use Rattle.zarrs_builder.specs.Parts.{found_fields, chosen_view};
+    ghost use Rattle.zarrs_builder.specs.Builders.{builder_view, fields_of, found_fields};
+    ghost use Rattle.zarrs_builder.specs.Built.{built, chosen, codecs_chosen, document_of_fields};
+    ghost use Rattle.zarrs_builder.specs.Built.{SaysChosen, BuildsArray};
 
     /// Returns the V3 metadata of the array: the data type, the chunk grid and the codecs by their main names, and the
     /// fill value as the data type writes it.

@@ -5,8 +5,7 @@ use Rattle.zarrs_options.specs.Refusals.{create_refusal_of}
 use Rattle.zarrs_creation.specs.Meanings.{creation}
 use Rattle.zarrs.specs.Arrays.{metadata_of_array, meaning_of_array}
 use Rattle.zarrs.proofs.Layouts.{parts_are}
-use Rattle.zarrs_builder.specs.Builders.{builder_view}
-use Rattle.zarrs_builder.specs.Parts.{found_fields}
+use Rattle.zarrs_builder.specs.Builders.{builder_view, found_fields}
 use Rattle.zarrs_builder.proofs.Order.{at_path, at_chosen, at_creation, metadata_built, parts_built}
 use Rattle.zarrs_builder.proofs.builder.ArrayBuilder.build.Goals as goal
 
