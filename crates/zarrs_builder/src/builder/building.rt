@@ -1,5 +1,6 @@
 //! Metadata and arrays of a builder.
-ghost use Rattle.std.specs.Prelude.{◌≡◌, option_map, Some, Ok, IfOk, IfErr};
+ghost use Rattle.std.specs.Prelude.{◌≡◌, option_map, Some, Ok, IfOk, IfErr, OnOk};
+ghost use Rattle.zarrs_creation.specs.Meanings.{path_said};
 ghost use Rattle.zarrs_metadata_parts.specs.FillValue.{fill_data};
 ghost use Rattle.zarrs_chunk_grid.specs.GridView.{array_extents_of, configuration_of};
 ghost use Rattle.zarrs_data_type.specs.FillMetadata.{fill_said};
@@ -82,7 +83,7 @@ impl ArrayBuilder {
         ensures { BuildsArray (builder_view self.now) path.now storage result }
     {
         let fields = self.fields()?;
-        drop(NodePath::new(alloc, path)?);
+        check_path(alloc, path)?;
         let metadata = self.metadata_of(alloc, &fields)?;
         let array = Array::new_with_metadata(alloc, storage, path, ArrayMetadata::V3(metadata))?;
         Ok(array.with_codec_specific_options(&self.codec_specific_options))
@@ -196,6 +197,15 @@ fn found<T>(field: &Result<T, AllocError>) -> Result<&T, ArrayCreateError>
         Ok(value) => Ok(value),
         Err(_) => Err(ArrayCreateError::OutOfMemory),
     }
+}
+
+fn check_path(alloc: Global, path: &str) -> Result<(), ArrayCreateError>
+    ensures made { OnOk result (path_said path.now ≡ Ok tt) }
+    ensures refused { IfErr result
+        (λ e. RefusesCreation (path_said path.now) (create_refusal_of e)) }
+{
+    drop(NodePath::new(alloc, path)?);
+    Ok(())
 }
 
 /// Returns the sizes of subchunks of this shape.

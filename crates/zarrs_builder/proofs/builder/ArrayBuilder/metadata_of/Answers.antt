@@ -1,4 +1,6 @@
-use Rattle.std.proofs.Common.{◌≡◌, Some, Ok, rules, sym, ap, ◌∙◌}
+use Rattle.std.proofs.Common.{◌≡◌, Some, rules, subst}
+use Rattle.zarrs_metadata_parts.specs.Extension.{ExtensionData}
+use Rattle.zarrs_keys.specs.Metadata.{key_encoding_of}
 use Rattle.zarrs_metadata_parts.specs.FillValue.{fill_data}
 use Rattle.zarrs_data_type.specs.Kind.{kind}
 use Rattle.zarrs_chunk_grid.specs.GridView.{configuration_of}
@@ -49,5 +51,5 @@ returns-clause-says c =
     let f = found_fields c.args.fields.now in
     let chosen : ChosenData = record { kind = kind c.in_ok-data_type.data_type; chain = chain_data c.in_ok-chain.chain; grid = configuration_of c.in_ok-grid.grid; fill = c.in_ok-fill_value.fill_value; fill_value = fill_data c.in_ok-stated.stated } in
     let chain = rw c.in_ok-create_metadatas.ensures.written at c.in_ok-create_metadatas.ensures.reads_back in
-    let keys = rw c.in_ok-metadata-3.ensures.written at c.in_ok-metadata-3.ensures.reads_back in
+    let keys = subst (λ (e : ExtensionData). key_encoding_of e ≡ Some b.chunk_key_encoding) c.in_ok-metadata-3.ensures.written c.in_ok-metadata-3.ensures.reads_back in
     (chosen, all_chosen b f (kind c.in_ok-data_type.data_type) c.in_ok-data_type.ensures.made (chain_data c.in_ok-chain.chain) c.in_ok-chain.ensures.made (configuration_of c.in_ok-grid.grid) c.in_ok-grid.ensures.made c.in_ok-fill_value.fill_value c.in_ok-fill_value.ensures.made c.in_ok-check_names.ensures.made (fill_data c.in_ok-stated.stated) c.in_ok-stated.ensures.made, document_creates b f chosen _ (search rules) chain (grid_back c.in_ok-grid.grid f.shape c.in_ok-grid.ensures.over) c.in_ok-stated.ensures.read keys c.in_ok-check_names.ensures.made)
