@@ -1,38 +1,38 @@
--- What a store of cells leaves of a directory whose store was lent.
-use Rattle.std.proofs.Common.{◌≡◌, ℕ, List, Bool, true, false, ◌&&◌, Some, refl, subst, ap}
+-- What calls leave of a store that was lent.
+use Rattle.std.proofs.Common.{◌≡◌, ℕ, List, Bool, true, false, ◌&&◌, Some, refl, subst, ap, ◌∙◌}
 use Rattle.std.specs.Prelude.{Result, Ok, OnOk, slice_index}
 use Rattle.std.specs.Borrow.{MutBor}
 use Rattle.zarrs_subset.specs.Regions.{Box, IsLong}
+use Rattle.zarrs_storage.specs.Store.{StoreState}
 use Rattle.zarrs_storage.specs.Wrappers.{lent_state}
 use Rattle.zarrs_data_type.specs.ArrayData.{ArrayData}
 use Rattle.zarrs_data_type.specs.Cells.{cells}
 use Rattle.zarrs_engine_calls.specs.Layout.{Layout}
 use Rattle.zarrs_engine_calls.specs.ChunkBoxes.{chunks_met}
+use Rattle.zarrs_engine_calls.specs.Compactions.{CompactsChunk}
 use Rattle.zarrs_engine_calls.specs.Fronts.{StoresAll}
 use Rattle.zarrs_engine_calls.specs.Patches.{writes_parts}
-use Rattle.zarrs_directory.specs.Directory.{directory_of, directory_state}
-use Rattle.zarrs_directory.specs.declared.store.DirectoryStore.{DirectoryStore}
-use Rattle.zarr_arrays.specs.Storing.{StoresOver, StoresCells}
+use Rattle.zarr_arrays.specs.Storing.{CompactsOver, StoresOver}
 
 -- what is said of a good result
 pub ok_fact : {T E : Type 0} (P : Type 0) (result : Result T E) (value : T) → result ≡ Ok value → OnOk result P → P
 ok_fact {T = T} {E = E} P result value is holds = subst (λ (r : Result T E). OnOk r P) is holds
 
-never : (asked can : Bool) → (asked && (can && false)) ≡ false
-never false can = refl
-never true false = refl
-never true true = refl
+never : (asked can sets : Bool) → sets ≡ false → (asked && (can && sets)) ≡ false
+never false can sets off = refl
+never true false sets off = refl
+never true true sets off = off
 
-module _ {R : Type 0} (layout : Layout) where
-  -- a directory writes no part of a value by itself
-  pub no_parts : (asked : Bool) (store : MutBor (DirectoryStore R)) → writes_parts asked layout (lent_state directory_state store) ≡ false
-  no_parts asked store = never asked layout.chain.encodes_partly
+module _ {S : Type 0} (state : S → StoreState) (layout : Layout) where
+  -- what is stored of a store that writes no part of a value by itself
+  pub no_parts : (asked : Bool) (store : MutBor S) → (state store.now).sets_parts ≡ false → writes_parts asked layout (lent_state state store) ≡ false
+  no_parts asked store off = never asked layout.chain.encodes_partly (state store.now).sets_parts off
 
-  module _ (keep : Bool) (region : Box) (held : ArrayData) (old new : MutBor (DirectoryStore R)) where
-    -- what is stored through the loan is stored in the directory
+  module _ (keep : Bool) (region : Box) (held : ArrayData) (old new : MutBor S) where
+    -- what is stored through the loan is stored in the store
     pub stores_over : (given : ArrayData) → held ≡ given → IsLong region
-        → StoresAll layout keep region held (chunks_met layout.grid region) (lent_state directory_state old) (lent_state directory_state new)
-        → StoresOver layout region given old.now new.now
+        → StoresAll layout keep region held (chunks_met layout.grid region) (lent_state state old) (lent_state state new)
+        → StoresOver layout region given (state old.now) (state new.now)
     stores_over given same long all = record {
       given = all.takes.given;
       are_cells = subst (λ (d : ArrayData). cells layout.kind d ≡ Some all.takes.given) same all.takes.are_cells;
@@ -43,18 +43,41 @@ module _ {R : Type 0} (layout : Layout) where
     }
 
     -- the loan stays
-    pub same_loan : StoresAll layout keep region held (chunks_met layout.grid region) (lent_state directory_state old) (lent_state directory_state new)
+    pub same_loan : StoresAll layout keep region held (chunks_met layout.grid region) (lent_state state old) (lent_state state new)
         → new.ghost_name ≡ old.ghost_name
     same_loan all = ap (λ (l : List ℕ). slice_index l 0) all.front.makes.reach.lenders
 
-  -- the same of a directory that was read first
-  pub stores_cells : (region : Box) (held : ArrayData) (old read new : DirectoryStore R) → directory_of read ≡ directory_of old → StoresOver layout region held read new
-      → StoresCells layout region held old new
-  stores_cells region held old read new same stores = record { read = read; same = same; stores = stores }
+  module _ (index : List ℕ) (old new : MutBor S) where
+    -- what is compacted through the loan is compacted in the store
+    pub compacts_over : (answer : Bool) → CompactsChunk layout index answer (lent_state state old) (lent_state state new)
+        → CompactsOver layout index answer (state old.now) (state new.now)
+    compacts_over true compacts = record {
+      encoded = compacts.encoded;
+      less = compacts.less;
+      stands = compacts.stands;
+      compacts = compacts.compacts;
+      held = compacts.put.held;
+      others = compacts.put.others;
+    }
+    compacts_over false leaves = record {
+      values = ap (λ (s : StoreState). s.values) leaves.same;
+      compact = λ encoded stands. (leaves.compact encoded stands).1;
+    }
 
--- what was stored through an array of this layout, over the store that was lent
-pub stored_there : {R : Type 0} (layout other : Layout) (region : Box) (held : ArrayData) (from to old new : DirectoryStore R) → other ≡ layout → from ≡ old → to ≡ new
+    pub compacted_loan : (answer : Bool) → CompactsChunk layout index answer (lent_state state old) (lent_state state new)
+        → new.ghost_name ≡ old.ghost_name
+    compacted_loan true compacts = ap (λ (l : List ℕ). slice_index l 0) compacts.put.makes.reach.lenders
+    compacted_loan false leaves = ap (λ (s : StoreState). slice_index s.lenders 0) leaves.same
+
+-- what was done through an array of this layout, from the store that was lent to what it is at the end
+pub stored_there : (layout other : Layout) (region : Box) (held : ArrayData) (from to old new : StoreState) → other ≡ layout → from ≡ old → to ≡ new
     → StoresOver other region held from to → StoresOver layout region held old new
-stored_there {R = R} layout other region held from to old new same before after stores =
-    subst (λ (s : DirectoryStore R). StoresOver layout region held old s) after
-    (subst (λ (s : DirectoryStore R). StoresOver layout region held s to) before (subst (λ (l : Layout). StoresOver l region held from to) same stores))
+stored_there layout other region held from to old new same before after stores =
+    subst (λ (s : StoreState). StoresOver layout region held old s) after
+    (subst (λ (s : StoreState). StoresOver layout region held s to) before (subst (λ (l : Layout). StoresOver l region held from to) same stores))
+
+pub compacted_there : (layout other : Layout) (index : List ℕ) (answer : Bool) (from to old new : StoreState) → other ≡ layout → from ≡ old → to ≡ new
+    → CompactsOver other index answer from to → CompactsOver layout index answer old new
+compacted_there layout other index answer from to old new same before after compacts =
+    subst (λ (s : StoreState). CompactsOver layout index answer old s) after
+    (subst (λ (s : StoreState). CompactsOver layout index answer s to) before (subst (λ (l : Layout). CompactsOver l index answer from to) same compacts))
