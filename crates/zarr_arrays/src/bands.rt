@@ -16,8 +16,8 @@ use zarrs::{Array, ArraySubset, ArraySubsetTraits};
 /// The bytes of cells that a band is to have.
 const WANTED: u64 = 16 * 1024 * 1024;
 
-/// The bytes of cells of a band that ends inside of chunks, whose values are held beside it.
-const CUTTING: u64 = 32 * 1024 * 1024;
+/// The most bytes of cells of a band that ends inside of chunks, whose values are held beside it.
+const CUTTING: u64 = 24 * 1024 * 1024;
 
 /// The most bytes of cells of a band that has more than one cell.
 const MOST: u64 = 64 * 1024 * 1024;
@@ -49,17 +49,18 @@ fn row_bytes(array: &Array<()>, region: &ArraySubset, axis: usize) -> u64
     bytes.max(1)
 }
 
-/// Returns rows up to the end of a chunk, and those of further chunks as long as there are no more than wanted. If the end is
-/// too far, returns as many rows as a band has that ends before it.
+/// Returns rows up to the end of a chunk, and those of further chunks as long as there are no more than wanted. Of a chunk that
+/// is too high it returns as many rows as a band has that ends inside of chunks, and none behind the chunk.
 fn rows_up_to(to_end: u64, height: u64, wanted: u64, cutting: u64, most: u64) -> u64
     requires { 1 ≤ cutting }
-    ensures { 1 ≤ result }
+    ensures some { 1 ≤ result }
+    ensures cut { most < height → result ≤ cutting }
 {
-    if to_end == 0 || to_end > most {
+    if to_end == 0 || height == 0 {
         return cutting;
     }
-    if height == 0 {
-        return to_end;
+    if height > most {
+        return to_end.min(cutting);
     }
     let further = wanted.saturating_sub(to_end) / height;
     to_end.saturating_add(further.saturating_mul(height))

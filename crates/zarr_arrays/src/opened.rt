@@ -152,11 +152,7 @@ impl<'r> Opened<'r> {
     ///
     /// # Errors
     /// E1 for another number of dimensions, or an end past the shape.
-    pub fn region(
-        &self,
-        alloc: Global,
-        region: Option<ArraySubset>,
-    ) -> Result<ArraySubset, Refusal>
+    pub fn region(&self, alloc: Global, region: Option<ArraySubset>) -> Result<ArraySubset, Refusal>
         ensures inside { IfSome region (λ given. LiesInShape (box_of given)
             (shape_said (metadata_of_array self.now.array)) → result ≡ Ok given) }
         ensures outside { IfSome region (λ given. (LiesInShape (box_of given)
