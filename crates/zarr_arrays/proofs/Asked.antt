@@ -122,9 +122,10 @@ module _ {R : Type 0} (layout : Layout) where
   }
 
   -- nothing was read before
-  pub read_only : (chunks : List (List ℕ)) (old new : DirectoryStore R) → ((key : List ℕ) → was_read old key ≡ false) → ReadsNoOthers layout chunks old new
-      → HasReadOnly layout chunks new
-  read_only chunks old new none others = record {
+  pub read_only : (chunks : List (List ℕ)) (old new : DirectoryStore R) → ((key : List ℕ) → was_read old key ≡ false)
+      → MayAskChunks layout chunks (directory_state new) → ReadsNoOthers layout chunks old new → HasReadOnly layout chunks new
+  read_only chunks old new none each others = record {
+    each = each;
     keys = λ key read.
         elim (others.keys key read) [
           | inl before ↦ absurd (false≢true (sym (none key) ∙ before))

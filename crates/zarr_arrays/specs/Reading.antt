@@ -37,6 +37,7 @@ pub record ReadsAtMost {R : Type 0} (layout : Layout) (old new : DirectoryStore 
 pub record ReadsNoOthers {R : Type 0} (layout : Layout) (chunks : List (List ℕ)) (old new : DirectoryStore R) : Type 0 where
   pub keys : (key : List ℕ) → was_read new key ≡ true → (was_read old key ≡ true) ⊎ ((index : List ℕ) × Contains chunks index × (key ≡ layout.key index))
 
--- each key that may be asked is that of one of these chunks
+-- these chunks were read, and no other: each of them may be asked, and each key that may be asked is that of one of them
 pub record HasReadOnly {R : Type 0} (layout : Layout) (chunks : List (List ℕ)) (store : DirectoryStore R) : Type 0 where
+  pub each : (index : List ℕ) → Contains chunks index → HasRead layout store index
   pub keys : (key : List ℕ) → was_read store key ≡ true → (index : List ℕ) × Contains chunks index × (key ≡ layout.key index)

@@ -10,6 +10,7 @@ use Rattle.zarrs_subset.specs.Boxes.{position_count}
 use Rattle.zarrs_subset.specs.Regions.{Box, IsLong, positions}
 use Rattle.zarrs_subset.proofs.Positions.{length-positions}
 use Rattle.zarrs_engine_calls.specs.Layout.{Layout}
+use Rattle.zarrs_engine_calls.specs.ChunkBoxes.{chunks_met}
 use Rattle.zarrs_directory.specs.Directory.{directory_of}
 use Rattle.zarrs_directory.specs.declared.files.Directory.{Directory}
 use Rattle.zarrs_directory.specs.declared.store.DirectoryStore.{DirectoryStore}
@@ -22,7 +23,7 @@ use Rattle.zarr_cells.specs.Raw.{ReadsRaw, WritesRaw}
 use Rattle.zarr_cells.specs.declared.form.Form.{Form}
 use Rattle.zarr_cells.proofs.LineLemmas.{appends_none, column_both, reads_none, reads_both, writes_none, writes_both}
 use Rattle.zarr_cells.proofs.WordLemmas.{appends_both}
-use Rattle.zarr_arrays.specs.Reading.{ReadsCells}
+use Rattle.zarr_arrays.specs.Reading.{HasReadOnly, ReadsCells}
 use Rattle.zarr_arrays.specs.Storing.{StoresCells}
 use Rattle.zarr_regions.specs.Texts.{header_says, ReadsHeaderOf, WritesHeader}
 use Rattle.zarr_regions.specs.Cells.{Band, Make, IsRead, AreCells, WritesBytes, WritesLines, StoresBands, StoresPlaces, StoresBytes, StoresLines}
@@ -61,13 +62,13 @@ module _ {R : Type 0} (layout : Layout) where
     cells_none : AreCells layout directory [] []
     cells_none = record { bands = []; read = All-nil (IsRead layout directory); make = make_none }
 
-    pub cells_one : (region : Box) (bytes : List ℕ) (store : DirectoryStore R) → ReadsCells layout region store (fixed bytes) → directory_of store ≡ directory
-        → AreCells layout directory (positions region) bytes
-    cells_one region bytes store reads same =
+    pub cells_one : (region : Box) (bytes : List ℕ) (store : DirectoryStore R) → ReadsCells layout region store (fixed bytes)
+        → HasReadOnly layout (chunks_met layout.grid region) store → directory_of store ≡ directory → AreCells layout directory (positions region) bytes
+    cells_one region bytes store reads only same =
         let band : Band = record { region = region; bytes = bytes } in
         record {
           bands = band ∷ [];
-          read = All-push (IsRead layout directory) [] band (All-nil (IsRead layout directory)) (record { store = store; cells = reads; same = same });
+          read = All-push (IsRead layout directory) [] band (All-nil (IsRead layout directory)) (record { store = store; cells = reads; only = only; same = same });
           make = make_one region bytes;
         }
 
@@ -218,24 +219,25 @@ none_holds P Q (Some value) not holds = absurd (not value refl)
 
 module _ {R : Type 0} (layout other : Layout) where
   module _ (directory : Directory R) (region : Box) (store : DirectoryStore R) where
-    pub bytes_one : (held : ArrayData) (old new : Option (List ℕ)) → other ≡ layout → ReadsCells other region store held → directory_of store ≡ directory
-        → WritesRaw held old new → WritesBytes layout directory (positions region) old new
-    bytes_one held old new same_layout reads same writes =
+    pub bytes_one : (held : ArrayData) (old new : Option (List ℕ)) → other ≡ layout → ReadsCells other region store held
+        → HasReadOnly layout (chunks_met layout.grid region) store → directory_of store ≡ directory → WritesRaw held old new
+        → WritesBytes layout directory (positions region) old new
+    bytes_one held old new same_layout reads only same writes =
         let read = subst (λ (d : ArrayData). ReadsCells other region store d) writes.are reads in
         record {
           bytes = writes.bytes;
-          cells = cells_one layout directory region writes.bytes store (subst (λ (l : Layout). ReadsCells l region store (fixed writes.bytes)) same_layout read) same;
+          cells = cells_one layout directory region writes.bytes store (subst (λ (l : Layout). ReadsCells l region store (fixed writes.bytes)) same_layout read) only same;
           written = writes.written;
         }
 
     pub lines_one : (form : Form) (size width column after : ℕ) (held : ArrayData) (bytes : List ℕ) (old new : Option (List ℕ)) → other ≡ layout → held ≡ fixed bytes
-        → ReadsCells other region store held → directory_of store ≡ directory → WritesCells form size width column after bytes old new
-        → WritesLines layout directory form size width column after (positions region) old new
-    lines_one form size width column after held bytes old new same_layout are reads same writes =
+        → ReadsCells other region store held → HasReadOnly layout (chunks_met layout.grid region) store → directory_of store ≡ directory
+        → WritesCells form size width column after bytes old new → WritesLines layout directory form size width column after (positions region) old new
+    lines_one form size width column after held bytes old new same_layout are reads only same writes =
         let read = subst (λ (d : ArrayData). ReadsCells other region store d) are reads in
         record {
           bytes = bytes;
-          cells = cells_one layout directory region bytes store (subst (λ (l : Layout). ReadsCells l region store (fixed bytes)) same_layout read) same;
+          cells = cells_one layout directory region bytes store (subst (λ (l : Layout). ReadsCells l region store (fixed bytes)) same_layout read) only same;
           written = writes;
         }
 

@@ -12,4 +12,4 @@ returns-clause-written g c =
     lines_one (layout_of_array c.args.opened.now.array) (layout_of_array c.cells.new.self.array) (directory_of c.args.opened.now.store) (box_of c.args.band.now)
     c.cells.new.self.store rows.form rows.size rows.width c.args.column c.in_ok-after.after (data_of c.in_ok-cells.cells) c.in_ok-bytes.bytes.now
     (g.W.Write.contents c.args.out.now) (g.W.Write.contents c.write_cells.new.out) (ap layout_of_array c.cells.ensures.array)
-    c.in_ok-bytes.ensures c.in_ok-cells.ensures.cells c.in_ok-cells.ensures.directory c.in_ok-after.ensures
+    c.in_ok-bytes.ensures c.in_ok-cells.ensures.cells c.in_ok-cells.ensures.only c.in_ok-cells.ensures.directory c.in_ok-after.ensures
