@@ -1,4 +1,4 @@
--- What calls leave of a store that was lent.
+-- What calls leave of a directory that was lent.
 use Rattle.std.proofs.Common.{◌≡◌, ℕ, List, Bool, true, false, ◌&&◌, Some, refl, subst, ap, ◌∙◌}
 use Rattle.std.specs.Prelude.{Result, Ok, OnOk, slice_index}
 use Rattle.std.specs.Borrow.{MutBor}
@@ -12,27 +12,29 @@ use Rattle.zarrs_engine_calls.specs.ChunkBoxes.{chunks_met}
 use Rattle.zarrs_engine_calls.specs.Compactions.{CompactsChunk}
 use Rattle.zarrs_engine_calls.specs.Fronts.{StoresAll}
 use Rattle.zarrs_engine_calls.specs.Patches.{writes_parts}
+use Rattle.zarrs_directory.specs.Directory.{cache_state}
+use Rattle.zarrs_directory.specs.declared.caching.Cache.{Cache}
 use Rattle.zarr_arrays.specs.Storing.{CompactsOver, StoresOver}
 
 -- what is said of a good result
 pub ok_fact : {T E : Type 0} (P : Type 0) (result : Result T E) (value : T) → result ≡ Ok value → OnOk result P → P
 ok_fact {T = T} {E = E} P result value is holds = subst (λ (r : Result T E). OnOk r P) is holds
 
-never : (asked can sets : Bool) → sets ≡ false → (asked && (can && sets)) ≡ false
-never false can sets off = refl
-never true false sets off = refl
-never true true sets off = off
+never : (asked can : Bool) → (asked && (can && false)) ≡ false
+never false can = refl
+never true false = refl
+never true true = refl
 
-module _ {S : Type 0} (state : S → StoreState) (layout : Layout) where
-  -- what is stored of a store that writes no part of a value by itself
-  pub no_parts : (asked : Bool) (store : MutBor S) → (state store.now).sets_parts ≡ false → writes_parts asked layout (lent_state state store) ≡ false
-  no_parts asked store off = never asked layout.chain.encodes_partly (state store.now).sets_parts off
+module _ (layout : Layout) where
+  -- a directory writes no part of a value by itself
+  pub no_parts : (asked : Bool) (cache : MutBor Cache) → writes_parts asked layout (lent_state cache_state cache) ≡ false
+  no_parts asked cache = never asked layout.chain.encodes_partly
 
-  module _ (keep : Bool) (region : Box) (held : ArrayData) (old new : MutBor S) where
-    -- what is stored through the loan is stored in the store
+  module _ (keep : Bool) (region : Box) (held : ArrayData) (old new : MutBor Cache) where
+    -- what is stored through the loan is held
     pub stores_over : (given : ArrayData) → held ≡ given → IsLong region
-        → StoresAll layout keep region held (chunks_met layout.grid region) (lent_state state old) (lent_state state new)
-        → StoresOver layout region given (state old.now) (state new.now)
+        → StoresAll layout keep region held (chunks_met layout.grid region) (lent_state cache_state old) (lent_state cache_state new)
+        → StoresOver layout region given (cache_state old.now) (cache_state new.now)
     stores_over given same long all = record {
       given = all.takes.given;
       are_cells = subst (λ (d : ArrayData). cells layout.kind d ≡ Some all.takes.given) same all.takes.are_cells;
@@ -40,17 +42,28 @@ module _ {S : Type 0} (state : S → StoreState) (layout : Layout) where
       long = long;
       updates = all.updates;
       keys = all.takes.stores.updates.keys;
+      makes = record {
+        calls = all.front.makes.calls;
+        failures = all.front.makes.failures;
+        reach = record {
+          may_ask = all.front.makes.reach.may_ask;
+          may_read = all.front.makes.reach.may_read;
+          sets_parts = all.front.makes.reach.sets_parts;
+          lenders = refl;
+          parts = all.front.makes.reach.parts;
+        };
+      };
     }
 
     -- the loan stays
-    pub same_loan : StoresAll layout keep region held (chunks_met layout.grid region) (lent_state state old) (lent_state state new)
+    pub same_loan : StoresAll layout keep region held (chunks_met layout.grid region) (lent_state cache_state old) (lent_state cache_state new)
         → new.ghost_name ≡ old.ghost_name
     same_loan all = ap (λ (l : List ℕ). slice_index l 0) all.front.makes.reach.lenders
 
-  module _ (index : List ℕ) (old new : MutBor S) where
-    -- what is compacted through the loan is compacted in the store
-    pub compacts_over : (answer : Bool) → CompactsChunk layout index answer (lent_state state old) (lent_state state new)
-        → CompactsOver layout index answer (state old.now) (state new.now)
+  module _ (index : List ℕ) (old new : MutBor Cache) where
+    -- what is compacted through the loan is held
+    pub compacts_over : (answer : Bool) → CompactsChunk layout index answer (lent_state cache_state old) (lent_state cache_state new)
+        → CompactsOver layout index answer (cache_state old.now) (cache_state new.now)
     compacts_over true compacts = record {
       encoded = compacts.encoded;
       less = compacts.less;
@@ -64,12 +77,12 @@ module _ {S : Type 0} (state : S → StoreState) (layout : Layout) where
       compact = λ encoded stands. (leaves.compact encoded stands).1;
     }
 
-    pub compacted_loan : (answer : Bool) → CompactsChunk layout index answer (lent_state state old) (lent_state state new)
+    pub compacted_loan : (answer : Bool) → CompactsChunk layout index answer (lent_state cache_state old) (lent_state cache_state new)
         → new.ghost_name ≡ old.ghost_name
     compacted_loan true compacts = ap (λ (l : List ℕ). slice_index l 0) compacts.put.makes.reach.lenders
     compacted_loan false leaves = ap (λ (s : StoreState). slice_index s.lenders 0) leaves.same
 
--- what was done through an array of this layout, from the store that was lent to what it is at the end
+-- what was done through an array of this layout, from what was lent to what is held at the end
 pub stored_there : (layout other : Layout) (region : Box) (held : ArrayData) (from to old new : StoreState) → other ≡ layout → from ≡ old → to ≡ new
     → StoresOver other region held from to → StoresOver layout region held old new
 stored_there layout other region held from to old new same before after stores =

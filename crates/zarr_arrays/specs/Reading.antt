@@ -7,7 +7,7 @@ use Rattle.zarrs_engine_calls.specs.ChunkBoxes.{chunks_met}
 use Rattle.zarrs_engine_calls.specs.Reach.{MayAskChunk}
 use Rattle.zarrs_engine_calls.specs.Reads.{ReadsRegion}
 use Rattle.zarrs_engine_calls.specs.StateRefusals.{IsPart}
-use Rattle.zarrs_directory.specs.Directory.{directory_of, directory_state, was_read}
+use Rattle.zarrs_directory.specs.Directory.{directory_state, was_read, KeepsStore}
 use Rattle.zarrs_directory.specs.declared.store.DirectoryStore.{DirectoryStore}
 
 -- the chunk may be asked
@@ -21,7 +21,7 @@ HasReadPart layout region store index = IsPart layout region index → HasRead l
 -- more was read of the directory: each chunk that might be asked may be asked
 pub record KeepsRead {R : Type 0} (layout : Layout) (old new : DirectoryStore R) : Type 0 where
   pub chunks : (index : List ℕ) → HasRead layout old index → HasRead layout new index
-  pub directory : directory_of new ≡ directory_of old
+  pub kept : KeepsStore old new
 
 -- the data is the cells of the region, as the chunks say them that were read of the directory
 abbrev pub ReadsCells : {R : Type 0} → Layout → Box → DirectoryStore R → ArrayData → Type 0

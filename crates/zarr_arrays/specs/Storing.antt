@@ -4,30 +4,31 @@ use Rattle.std.specs.Borrow.{MutBor}
 use Rattle.zarrs_subset.specs.Boxes.{position_count}
 use Rattle.zarrs_subset.specs.Regions.{Box, IsLong, in_box, cell_in}
 use Rattle.zarrs_storage.specs.Store.{StoreState}
-use Rattle.zarrs_storage.specs.Wrappers.{lent_store}
-use Rattle.zarrs_storage.specs.declared.lending.Lent.{Lent}
 use Rattle.zarrs_data_type.specs.Cell.{Cell}
 use Rattle.zarrs_data_type.specs.ArrayData.{ArrayData}
 use Rattle.zarrs_data_type.specs.Cells.{cells}
 use Rattle.zarrs_engine_calls.specs.Layout.{Layout}
 use Rattle.zarrs_engine_calls.specs.Content.{value_at, content}
-use Rattle.zarrs_engine_calls.specs.Changes.{ChangesKeysOf}
+use Rattle.zarrs_engine_calls.specs.Changes.{ChangesKeysOf, Makes}
 use Rattle.zarrs_engine_calls.specs.ChunkBoxes.{chunks_met}
 use Rattle.zarrs_engine_calls.specs.Compactions.{compacted_bytes}
 use Rattle.zarrs_engine_calls.specs.Reach.{MayAskParts}
-use Rattle.zarrs_directory.specs.Directory.{directory_of, directory_state}
+use Rattle.zarrs_directory.specs.Directory.{directory_of, directory_state, lent_cache, KeepsStore}
+use Rattle.zarrs_directory.specs.declared.caching.Cache.{Cache}
+use Rattle.zarrs_directory.specs.declared.lending.LentDirectory.{LentDirectory}
 use Rattle.zarrs_directory.specs.declared.store.DirectoryStore.{DirectoryStore}
 use Rattle.zarrs.specs.Arrays.{storage_of_array}
 use Rattle.zarrs.specs.declared.array.Array.{Array}
 use Rattle.zarr_arrays.specs.Reading.{HasRead}
 
--- the store that is lent to an array
-abbrev pub lent_to : {S : Type 0} → Array (Lent S) → MutBor S
-lent_to array = lent_store (storage_of_array array)
+-- what is held of the directory that is lent to an array
+abbrev pub lent_to : {R : Type 0} → Array (LentDirectory R) → MutBor Cache
+lent_to array = lent_cache (storage_of_array array)
 
 -- ---- cells that are stored
 
--- the content is the data over the region, and elsewhere what it was; no value but those of the chunks that it meets changed
+-- the content is the data over the region, and elsewhere what it was; no value but those of the chunks that it meets changed;
+-- for each of these one writing call was made, and none was refused
 pub record StoresOver (layout : Layout) (region : Box) (held : ArrayData) (old new : StoreState) : Type 0 where
   pub given : List Cell
   pub are_cells : cells layout.kind held ≡ Some given
@@ -36,13 +37,15 @@ pub record StoresOver (layout : Layout) (region : Box) (held : ArrayData) (old n
   pub updates : (position : List ℕ) → content layout (value_at new) position
       ≡ (if in_box region position then cell_in region given position else content layout (value_at old) position)
   pub keys : ChangesKeysOf layout (chunks_met layout.grid region) old new
+  pub makes : Makes (length (chunks_met layout.grid region)) 0 old new
 
 -- the same of a directory, of which each chunk was read that the region covers in part alone
 pub record StoresCells {R : Type 0} (layout : Layout) (region : Box) (held : ArrayData) (old new : DirectoryStore R) : Type 0 where
   pub read : DirectoryStore R
-  pub same : directory_of read ≡ directory_of old
+  pub kept : KeepsStore old read
   pub asked : MayAskParts layout region (chunks_met layout.grid region) (directory_state read)
   pub stores : StoresOver layout region held (directory_state read) (directory_state new)
+  pub directory : directory_of new ≡ directory_of old
 
 -- ---- a chunk that is compacted
 
@@ -68,6 +71,7 @@ CompactsOver layout index false old new = LeavesBytes layout index old new
 -- the same of a directory, of which the chunk was read
 pub record CompactsRead {R : Type 0} (layout : Layout) (index : List ℕ) (answer : Bool) (old new : DirectoryStore R) : Type 0 where
   pub read : DirectoryStore R
-  pub same : directory_of read ≡ directory_of old
+  pub kept : KeepsStore old read
   pub asked : HasRead layout index read
   pub compacts : CompactsOver layout index answer (directory_state read) (directory_state new)
+  pub directory : directory_of new ≡ directory_of old

@@ -1,22 +1,22 @@
 //! Calls of an array over the store of its directory, once what they ask for was read.
-ghost use Rattle.std.specs.Prelude.{◌≡◌, false, length, IfOk, OnOk};
+ghost use Rattle.std.specs.Prelude.{◌≡◌, length, IfOk, OnOk};
 ghost use Rattle.zarrs_data_type.specs.ArrayData.{data_of};
 ghost use Rattle.zarrs_subset.specs.Regions.{box_of};
 ghost use Rattle.zarrs_engine_calls.specs.ChunkBoxes.{chunks_met};
 ghost use Rattle.zarrs_engine_calls.specs.Reach.{MayAskChunk, MayAskChunks, MayAskParts};
 ghost use Rattle.zarrs.specs.Arrays.{layout_of_array, store_of_array};
-ghost use Rattle.zarrs_directory.specs.Directory.{directory_state};
+ghost use Rattle.zarrs_directory.specs.Directory.{cache_state, directory_state};
 ghost use Rattle.zarr_arrays.specs.Reading.{ReadsCells};
 ghost use Rattle.zarr_arrays.specs.Storing.{CompactsOver, StoresOver, lent_to};
 
 use crate::opened::Store;
 use crate::refusals::Refusal;
 use std::alloc::Global;
-use zarrs::{
-    Array, ArrayBytes, ArraySubset, CodecOptions, Lent, ReadOnly, ReadableStorageTraits,
-    WritableStorageTraits,
-};
-use zarrs_directory::DirectoryStore;
+use zarrs::{Array, ArrayBytes, ArraySubset, CodecOptions, ReadOnly, ReadableStorageTraits};
+use zarrs_directory::{Cache, Directory, DirectoryStore, LentDirectory};
+
+/// A directory of this system.
+type Place<'r> = Directory<'r, HostRuntime>;
 
 /// Returns the array over the store, which is lent to be read.
 fn reading<'s, 'r>(
@@ -32,16 +32,17 @@ fn reading<'s, 'r>(
     Ok(array.with_storage(alloc, ReadOnly::new(store))?)
 }
 
-/// Returns the array over the store, which is lent to be written.
-fn writing<'s, S: WritableStorageTraits>(
+/// Returns the array over the directory and what is held of it, which are lent to be written.
+fn writing<'s, 'r>(
     array: &Array<()>,
     alloc: Global,
-    store: &'s mut S,
-) -> Result<Array<Lent<'s, S>>, Refusal>
+    directory: &'s Place<'r>,
+    cache: &'s mut Cache,
+) -> Result<Array<LentDirectory<'s, 'r, HostRuntime>>, Refusal>
     ensures layout { IfOk result (λ a. layout_of_array a ≡ layout_of_array array.now) }
-    ensures lent { IfOk result (λ a. lent_to a ≡ store.entry) }
+    ensures lent { IfOk result (λ a. lent_to a ≡ cache.entry) }
 {
-    Ok(array.with_storage(alloc, Lent::new(store))?)
+    Ok(array.with_storage(alloc, LentDirectory::new(directory, cache))?)
 }
 
 /// Returns the cells of the region, whose chunks were read.
@@ -63,91 +64,92 @@ pub(crate) fn retrieve_cells(
     Ok(cells?)
 }
 
-/// Stores the cells of the region, through an array over a store that is lent.
-fn store_through<S: WritableStorageTraits>(
-    array: &mut Array<Lent<'_, S>>,
+/// Stores the cells of the region, through an array over a directory that is lent.
+fn store_through(
+    array: &mut Array<LentDirectory<'_, '_, HostRuntime>>,
     alloc: Global,
     region: &ArraySubset,
     cells: ArrayBytes<'_>,
     options: &CodecOptions,
 ) -> Result<(), Refusal>
-    requires ask { MayAskParts (layout_of_array array.old) (box_of region.now)
+    requires { MayAskParts (layout_of_array array.old) (box_of region.now)
         (chunks_met (layout_of_array array.old).grid (box_of region.now))
-        (S.state (lent_to array.old).now) }
-    requires whole { (S.state (lent_to array.old).now).sets_parts ≡ false }
+        (cache_state (lent_to array.old).now) }
     ensures loan { OnOk result ((lent_to array.new).ghost_name ≡ (lent_to array.old).ghost_name) }
     ensures stored { OnOk result (StoresOver (layout_of_array array.old) (box_of region.now)
-        (data_of cells.entry) (S.state (lent_to array.old).now)
-        (S.state (lent_to array.new).now)) }
+        (data_of cells.entry) (cache_state (lent_to array.old).now)
+        (cache_state (lent_to array.new).now)) }
 {
     array.store_array_subset_opt(alloc, region, cells, options)?;
     Ok(())
 }
 
-/// Stores the cells of the region in a store that writes whole values. Of a chunk that the region covers in part alone the
-/// value may be asked for.
-pub(crate) fn store_cells<S: WritableStorageTraits>(
+/// Stores the cells of the region in the directory. The chunks were read of which it covers a part alone.
+pub(crate) fn store_cells(
     array: &Array<()>,
     alloc: Global,
-    store: &mut S,
+    directory: &Place<'_>,
+    cache: &mut Cache,
     region: &ArraySubset,
     cells: ArrayBytes<'_>,
     options: &CodecOptions,
 ) -> Result<(), Refusal>
-    requires ask { MayAskParts (layout_of_array array.now) (box_of region.now)
-        (chunks_met (layout_of_array array.now).grid (box_of region.now)) (S.state store.old) }
-    requires whole { (S.state store.old).sets_parts ≡ false }
+    requires { MayAskParts (layout_of_array array.now) (box_of region.now)
+        (chunks_met (layout_of_array array.now).grid (box_of region.now))
+        (cache_state cache.old) }
     ensures { OnOk result (StoresOver (layout_of_array array.now) (box_of region.now)
-        (data_of cells.entry) (S.state store.old) (S.state store.new)) }
+        (data_of cells.entry) (cache_state cache.old) (cache_state cache.new)) }
 {
-    let mut array = writing(array, alloc, store)?;
+    let mut array = writing(array, alloc, directory, cache)?;
     store_through(&mut array, alloc, region, cells, options)?;
-    let _store = array.into_storage().into_inner();
+    let _cache = array.into_storage().into_inner();
     Ok(())
 }
 
-/// Compacts the chunk with these indices, through an array over a store that is lent.
-fn compact_through<S: WritableStorageTraits>(
-    array: &mut Array<Lent<'_, S>>,
+/// Compacts the chunk with these indices, through an array over a directory that is lent.
+fn compact_through(
+    array: &mut Array<LentDirectory<'_, '_, HostRuntime>>,
     alloc: Global,
     indices: &[u64],
 ) -> Result<bool, Refusal>
     requires dimensions { length indices.now ≡ (layout_of_array array.old).grid.dimensions }
     requires ask { MayAskChunk (layout_of_array array.old) indices.now
-        (S.state (lent_to array.old).now) }
+        (cache_state (lent_to array.old).now) }
     ensures loan { OnOk result ((lent_to array.new).ghost_name ≡ (lent_to array.old).ghost_name) }
     ensures compacted { IfOk result (λ answer. CompactsOver (layout_of_array array.old) indices.now
-        answer (S.state (lent_to array.old).now) (S.state (lent_to array.new).now)) }
+        answer (cache_state (lent_to array.old).now) (cache_state (lent_to array.new).now)) }
 {
     let answer = array.compact_chunk(alloc, indices, &CodecOptions::default())?;
     Ok(answer)
 }
 
-/// Compacts the chunk with these indices, whose value may be asked for. Returns whether it was not compact.
-pub(crate) fn compact_chunk<S: WritableStorageTraits>(
+/// Compacts the chunk with these indices, which was read. Returns whether it was not compact.
+pub(crate) fn compact_chunk(
     array: &Array<()>,
     alloc: Global,
-    store: &mut S,
+    directory: &Place<'_>,
+    cache: &mut Cache,
     indices: &[u64],
 ) -> Result<bool, Refusal>
     requires dimensions { length indices.now ≡ (layout_of_array array.now).grid.dimensions }
-    requires ask { MayAskChunk (layout_of_array array.now) indices.now (S.state store.old) }
+    requires ask { MayAskChunk (layout_of_array array.now) indices.now (cache_state cache.old) }
     ensures { IfOk result (λ answer. CompactsOver (layout_of_array array.now) indices.now answer
-        (S.state store.old) (S.state store.new)) }
+        (cache_state cache.old) (cache_state cache.new)) }
 {
-    let mut array = writing(array, alloc, store)?;
+    let mut array = writing(array, alloc, directory, cache)?;
     let answer = compact_through(&mut array, alloc, indices)?;
-    let _store = array.into_storage().into_inner();
+    let _cache = array.into_storage().into_inner();
     Ok(answer)
 }
 
 /// Makes the V2 document of the array a V3 one.
-pub(crate) fn upgrade<S: WritableStorageTraits>(
+pub(crate) fn upgrade(
     array: &Array<()>,
     alloc: Global,
-    store: &mut S,
+    directory: &Place<'_>,
+    cache: &mut Cache,
 ) -> Result<(), Refusal> {
-    let mut array = writing(array, alloc, store)?;
+    let mut array = writing(array, alloc, directory, cache)?;
     let outcome = array.upgrade_metadata(alloc);
     drop(array);
     Ok(outcome?)
