@@ -1,10 +1,13 @@
 -- How many bytes cells have, and so what is stored of what was written.
-use Rattle.std.proofs.Common.{◌≡◌, ℕ, zero, suc, ◌+◌, ◌*◌, ◌/◌, ◌<◌, ◌≤◌, Bool, true, false, cond, ◌&&◌, leb, slice_index_or, List, [], ◌∷◌, ◌++◌, length, take, Option, Some, None, option_and_then, refl, sym, ap, ◌∙◌, subst, arith, length-append}
-use Rattle.std.specs.Prelude.{bytes_eq}
+use Rattle.std.proofs.Common.{◌≡◌, ℕ, zero, suc, ◌+◌, ◌*◌, ◌/◌, ◌<◌, ◌≤◌, Bool, true, false, cond, ◌&&◌, leb, slice_index_or, List, [], ◌∷◌, ◌++◌, length, take, Option, Some, None, option_and_then, drop, refl, sym, ap, ◌∙◌, subst, arith, append_assoc, length-append}
+use Rattle.std.specs.Prelude.{◌^◌, bytes_eq}
 use Rattle.std.specs.List.{All, flat_map}
-use Rattle.std.specs.Int.{w64, to_le_bytes}
+use Rattle.std.specs.Int.{w16, w64, from_le_bytes, to_le_bytes}
+use Rattle.std.specs.Io.KnownBytes.{Consumes}
 use Rattle.std.specs.Io.BufRead.{take_through}
 use Rattle.std.proofs.Math.Nat.{mul-div_cancel}
+use Rattle.std.proofs.Math.Seq.{drop-append_seam, take-append_seam}
+use Rattle.std.proofs.lemmas.Nat.{from_le_bytes-to_le_bytes_2}
 use Rattle.std.proofs.lemmas.Bool.{and_parts, leb-true}
 use Rattle.std.proofs.lemmas.Option.{option_and_then_some}
 use Rattle.std.proofs.lemmas.List.{length-take-le}
@@ -25,8 +28,10 @@ use Rattle.zarr_cells.specs.declared.form.Form.{Form}
 use Rattle.zarr_cells.specs.Numbers.{bits_in, cell_of, cell_in, widened}
 use Rattle.zarr_cells.specs.Lines.{first_cell, cells_in, behind, next, joined, ending, is_first, is_last, word_in, ReadsCells as ReadsLines}
 use Rattle.zarr_cells.specs.Laws.{LinesAreReadBack, RawIsReadBack}
+use Rattle.zarr_cells.specs.Npy.{header_bytes}
+use Rattle.zarr_cells.proofs.WordLemmas.{appends_both}
 use Rattle.zarr_regions.specs.Cells.{Band, Make, IsRead, AreCells, WritesBytes, WritesLines, StoresBands, StoresPlaces, StoresBytes, StoresLines}
-use Rattle.zarr_regions.specs.Laws.{BytesArePutBack, LinesArePutBack}
+use Rattle.zarr_regions.specs.Laws.{BytesArePutBack, LinesArePutBack, NpyIsPutBack}
 
 -- ---- how many bytes the cells of bands have
 
@@ -143,6 +148,35 @@ module _ (form : Form) (size width : ℕ) where
 same_count : (count other size : ℕ) → 0 < size → count * size ≡ other * size → count ≡ other
 same_count count other size some same = sym (mul-div_cancel count some) ∙ ap (λ (n : ℕ). n / size) same ∙ mul-div_cancel other some
 
+-- ---- numpy's header
+
+-- lists whose first parts are as long
+parts_same : (xs ys more rest : List ℕ) → length xs ≡ length ys → xs ++ more ≡ ys ++ rest → (xs ≡ ys) × (more ≡ rest)
+parts_same xs ys more rest long same =
+    let front : xs ≡ ys =
+    sym (take-append_seam xs more) ∙ ap (λ (n : ℕ). take n (xs ++ more)) long ∙ ap (λ (l : List ℕ). take (length ys) l) same ∙ take-append_seam ys rest in
+    let back : more ≡ rest =
+    sym (drop-append_seam xs more) ∙ ap (λ (n : ℕ). drop n (xs ++ more)) long ∙ ap (λ (l : List ℕ). drop (length ys) l) same ∙ drop-append_seam ys rest in
+    (front, back)
+
+-- what a text begins with is one header alone
+headers_same : (t s more rest : List ℕ) → length t < 2 ^ 16 → length s < 2 ^ 16 → header_bytes t ++ more ≡ header_bytes s ++ rest → (t ≡ s) × (more ≡ rest)
+headers_same t s more rest short small same =
+    let sizes : to_le_bytes w16 (length t) ≡ to_le_bytes w16 (length s) = ap (λ (l : List ℕ). take 2 (drop 8 l)) same in
+    let long : length t ≡ length s =
+    sym (from_le_bytes-to_le_bytes_2 (length t) short) ∙ ap (from_le_bytes w16) sizes ∙ from_le_bytes-to_le_bytes_2 (length s) small in
+    let texts : t ++ more ≡ s ++ rest = ap (λ (l : List ℕ). drop 10 l) same in
+    parts_same t s more rest long texts
+
+-- behind the header that was read lies what was written behind one
+behind_header : (t s bytes more cells text : List ℕ) (between left : Option (List ℕ)) → length t < 2 ^ 16 → length s < 2 ^ 16 → text ≡ header_bytes t ++ bytes
+    → Consumes (Some (text ++ more)) between (header_bytes s) → Consumes between left cells → Consumes (Some (bytes ++ more)) left cells
+behind_header t s bytes more cells text None left short small written read then = absurd read
+behind_header t s bytes more cells text (Some rest) left short small written read then =
+    let all : header_bytes t ++ (bytes ++ more) ≡ header_bytes s ++ rest =
+    sym (append_assoc (header_bytes t) bytes more) ∙ ap (λ (l : List ℕ). l ++ more) (sym written) ∙ read in
+    subst (λ (l : List ℕ). Consumes (Some l) left cells) (sym (headers_same t s (bytes ++ more) rest short small all).1) then
+
 -- ---- what is stored
 
 the_bytes : ArrayData → List ℕ
@@ -153,21 +187,35 @@ the_bytes (optional mask inner) = []
 module _ {R : Type 0} (directory : Directory R) (old new : DirectoryStore R) where
   pub bytes_back : RawIsReadBack → BytesArePutBack directory old new
   unfolding the_bytes
-  bytes_back law layout other size places text more left same_kind is_size writes stores =
+  bytes_back law layout other size places targets text more left same_kind is_size as_many writes stores =
       let read = read_sized layout size directory places writes.bytes is_size writes.cells in
-      let stored = stored_sized other size places stores.bytes old new (ap element_size same_kind ∙ is_size) stores.cells in
-      let count : length stores.bytes ≡ length text = stored ∙ sym read ∙ ap (λ (l : List ℕ). length l) (sym writes.written) in
+      let stored = stored_sized other size targets stores.bytes old new (ap element_size same_kind ∙ is_size) stores.cells in
+      let count : length stores.bytes ≡ length text = stored ∙ ap (λ (n : ℕ). n * size) as_many ∙ sym read ∙ ap (λ (l : List ℕ). length l) (sym writes.written) in
       let both =
       law (fixed writes.bytes) (fixed stores.bytes) text more left (record { bytes = writes.bytes; are = refl; written = writes.written })
       (record { bytes = stores.bytes; are = refl; count = count; read = stores.read }) in
       (ap the_bytes both.0, both.1)
 
   pub lines_back : LinesAreReadBack → LinesArePutBack directory old new
-  lines_back law layout other form size width after ending places text more left same_kind is_size some writes stores =
+  lines_back law layout other form size width after ending places targets text more left same_kind is_size some as_many writes stores =
       let read = read_sized layout size directory places writes.bytes is_size writes.cells in
       let lines : cells_in form size width writes.written.count 0 (text ++ []) ≡ Some (writes.bytes, []) =
       ap (λ (t : List ℕ). cells_in form size width writes.written.count 0 (t ++ [])) writes.written.written ∙ writes.written.reads [] in
       let count : writes.written.count ≡ length places =
       same_count writes.written.count (length places) size some (sym (lines_sized form size width writes.written.count 0 (text ++ []) writes.bytes [] lines) ∙ read) in
       law form size width 0 after writes.bytes stores.bytes text more left writes.written
-      (subst (λ (n : ℕ). ReadsLines form size width n 0 (Some (text ++ more)) left [] stores.bytes) (sym count) stores.read)
+      (subst (λ (n : ℕ). ReadsLines form size width n 0 (Some (text ++ more)) left [] stores.bytes) (as_many ∙ sym count) stores.read)
+
+  -- the bytes behind numpy's header
+  pub npy_back : RawIsReadBack → NpyIsPutBack directory old new
+  npy_back law layout other floats seen region target text more left same_kind as_many writes stores =
+      let bytes = writes.cells.bytes in
+      let header = writes.header.is in
+      let found = stores.header.reads.is in
+      let written : text ≡ header_bytes header.text ++ bytes =
+      appends_both (Some []) writes.between (Some text) writes.header.bytes bytes writes.header.written writes.cells.written ∙ ap (λ (l : List ℕ). l ++ bytes) header.is in
+      let read =
+      behind_header header.text found.text bytes more stores.cells.bytes text stores.between left header.short found.short written
+      (subst (λ (l : List ℕ). Consumes (Some (text ++ more)) stores.between l) found.is stores.header.reads.read) stores.cells.read in
+      bytes_back law layout other writes.header.size (positions region) (positions target) bytes more left same_kind writes.header.is_size as_many
+      (record { bytes = bytes; cells = writes.cells.cells; written = refl }) (record { bytes = stores.cells.bytes; cells = stores.cells.cells; read = read })

@@ -1,5 +1,5 @@
 use Rattle.zarrs_directory.specs.Directory.{directory_of}
-use Rattle.zarr_regions.proofs.LawLemmas.{bytes_back, lines_back}
+use Rattle.zarr_regions.proofs.LawLemmas.{bytes_back, lines_back, npy_back}
 use Rattle.zarr_regions.proofs.laws.written_cells_are_put_back.Goals as goal
 
 pub returns : goal.returns
@@ -10,4 +10,5 @@ returns c =
     record {
       bytes = bytes_back directory old new c.written_cells_are_read_back.ensures.raw;
       lines = lines_back directory old new c.written_cells_are_read_back.ensures.lines;
+      npy = npy_back directory old new c.written_cells_are_read_back.ensures.raw;
     }
