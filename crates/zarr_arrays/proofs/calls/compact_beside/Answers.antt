@@ -5,7 +5,7 @@ use Rattle.zarrs_directory.specs.Directory.{cache_state}
 use Rattle.zarr_arrays.specs.Storing.{lent_to}
 use Rattle.zarr_arrays.proofs.Asked.{chunk_at}
 use Rattle.zarr_arrays.proofs.Stored.{compacted_there}
-use Rattle.zarr_arrays.proofs.calls.compact_chunk.Goals as goal
+use Rattle.zarr_arrays.proofs.calls.compact_beside.Goals as goal
 
 pub compact_through-requires-clause-ask : goal.compact_through-requires-clause-ask
 compact_through-requires-clause-ask c =

@@ -7,7 +7,7 @@ use Rattle.zarrs_directory.specs.Directory.{cache_state}
 use Rattle.zarr_arrays.specs.Storing.{lent_to}
 use Rattle.zarr_arrays.proofs.Asked.{parts_at}
 use Rattle.zarr_arrays.proofs.Stored.{stored_there}
-use Rattle.zarr_arrays.proofs.calls.store_cells.Goals as goal
+use Rattle.zarr_arrays.proofs.calls.store_beside.Goals as goal
 
 pub store_through-requires : goal.store_through-requires
 store_through-requires c =
