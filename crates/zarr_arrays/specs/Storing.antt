@@ -72,6 +72,6 @@ CompactsOver layout index false old new = LeavesBytes layout index old new
 pub record CompactsRead {R : Type 0} (layout : Layout) (index : List ℕ) (answer : Bool) (old new : DirectoryStore R) : Type 0 where
   pub read : DirectoryStore R
   pub kept : KeepsStore old read
-  pub asked : HasRead layout index read
+  pub asked : HasRead layout read index
   pub compacts : CompactsOver layout index answer (directory_state read) (directory_state new)
   pub directory : directory_of new ≡ directory_of old
