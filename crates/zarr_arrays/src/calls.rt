@@ -5,7 +5,7 @@ ghost use Rattle.zarrs_subset.specs.Regions.{box_of};
 ghost use Rattle.zarrs_engine_calls.specs.ChunkBoxes.{chunks_met};
 ghost use Rattle.zarrs_engine_calls.specs.Reach.{MayAskChunk, MayAskChunks, MayAskParts};
 ghost use Rattle.zarrs.specs.Arrays.{layout_of_array, store_of_array};
-ghost use Rattle.zarrs_directory.specs.Directory.{cache_state, directory_state};
+ghost use Rattle.zarrs_directory.specs.Directory.{cache_state, directory_of, directory_state};
 ghost use Rattle.zarr_arrays.specs.Reading.{ReadsCells};
 ghost use Rattle.zarr_arrays.specs.Storing.{CompactsOver, StoresOver, lent_to};
 
@@ -85,7 +85,7 @@ fn store_through(
 }
 
 /// Stores the cells of the region in the directory. The chunks were read of which it covers a part alone.
-pub(crate) fn store_cells(
+fn store_beside(
     array: &Array<()>,
     alloc: Global,
     directory: &Place<'_>,
@@ -124,7 +124,7 @@ fn compact_through(
 }
 
 /// Compacts the chunk with these indices, which was read. Returns whether it was not compact.
-pub(crate) fn compact_chunk(
+fn compact_beside(
     array: &Array<()>,
     alloc: Global,
     directory: &Place<'_>,
@@ -143,7 +143,7 @@ pub(crate) fn compact_chunk(
 }
 
 /// Makes the V2 document of the array a V3 one.
-pub(crate) fn upgrade(
+fn upgrade_beside(
     array: &Array<()>,
     alloc: Global,
     directory: &Place<'_>,
@@ -153,4 +153,56 @@ pub(crate) fn upgrade(
     let outcome = array.upgrade_metadata(alloc);
     drop(array);
     Ok(outcome?)
+}
+
+/// Stores the cells of the region. The chunks were read of which it covers a part alone.
+pub(crate) fn store_cells(
+    array: &Array<()>,
+    alloc: Global,
+    store: &mut Store<'_>,
+    region: &ArraySubset,
+    cells: ArrayBytes<'_>,
+    options: &CodecOptions,
+) -> Result<(), Refusal>
+    requires { MayAskParts (layout_of_array array.now) (box_of region.now)
+        (chunks_met (layout_of_array array.now).grid (box_of region.now))
+        (directory_state store.old) }
+    ensures stored { OnOk result (StoresOver (layout_of_array array.now) (box_of region.now)
+        (data_of cells.entry) (directory_state store.old) (directory_state store.new)) }
+    ensures directory { directory_of store.new ≡ directory_of store.old }
+{
+    store_beside(
+        array,
+        alloc,
+        &store.directory,
+        &mut store.cache,
+        region,
+        cells,
+        options,
+    )
+}
+
+/// Compacts the chunk with these indices, which was read. Returns whether it was not compact.
+pub(crate) fn compact_chunk(
+    array: &Array<()>,
+    alloc: Global,
+    store: &mut Store<'_>,
+    indices: &[u64],
+) -> Result<bool, Refusal>
+    requires dimensions { length indices.now ≡ (layout_of_array array.now).grid.dimensions }
+    requires ask { MayAskChunk (layout_of_array array.now) indices.now (directory_state store.old) }
+    ensures compacted { IfOk result (λ answer. CompactsOver (layout_of_array array.now) indices.now
+        answer (directory_state store.old) (directory_state store.new)) }
+    ensures directory { directory_of store.new ≡ directory_of store.old }
+{
+    compact_beside(array, alloc, &store.directory, &mut store.cache, indices)
+}
+
+/// Makes the V2 document of the array a V3 one.
+pub(crate) fn upgrade(
+    array: &Array<()>,
+    alloc: Global,
+    store: &mut Store<'_>,
+) -> Result<(), Refusal> {
+    upgrade_beside(array, alloc, &store.directory, &mut store.cache)
 }

@@ -207,15 +207,7 @@ impl<'r> Opened<'r> {
         self.store.forget();
         read_parts(&self.array, &mut self.store, alloc, region)?;
         let options = self.options();
-        store_cells(
-            &self.array,
-            alloc,
-            &self.store.directory,
-            &mut self.store.cache,
-            region,
-            cells,
-            &options,
-        )?;
+        store_cells(&self.array, alloc, &mut self.store, region, cells, &options)?;
         Ok(())
     }
 
@@ -234,13 +226,7 @@ impl<'r> Opened<'r> {
             return Ok(false);
         }
         read_chunk(&self.array, &mut self.store, alloc, indices)?;
-        let answer = compact_chunk(
-            &self.array,
-            alloc,
-            &self.store.directory,
-            &mut self.store.cache,
-            indices,
-        )?;
+        let answer = compact_chunk(&self.array, alloc, &mut self.store, indices)?;
         Ok(answer)
     }
 
@@ -250,11 +236,6 @@ impl<'r> Opened<'r> {
     /// A document that is not seen as it is; E7 for a file that cannot be written; E9.
     pub fn upgrade(&mut self, alloc: Global) -> Result<(), Refusal> {
         self.need_clear(alloc)?;
-        upgrade(
-            &self.array,
-            alloc,
-            &self.store.directory,
-            &mut self.store.cache,
-        )
+        upgrade(&self.array, alloc, &mut self.store)
     }
 }

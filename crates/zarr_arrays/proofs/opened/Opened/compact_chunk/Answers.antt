@@ -7,6 +7,6 @@ returns-clause-compacted c = λ same. record {
   read = c.read_chunk.new.store;
   kept = kept_on c.args.self.now.store c.forget.new.self c.read_chunk.new.store c.forget.ensures.kept c.in_ok-read_chunk.ensures.kept.kept;
   asked = c.in_ok-read_chunk.ensures.read;
-  compacts = c.in_ok-answer.ensures;
-  directory = c.in_ok-read_chunk.ensures.kept.kept.directory ∙ c.forget.ensures.kept.directory;
+  compacts = c.in_ok-answer.ensures.compacted;
+  directory = c.compact_chunk.ensures.directory ∙ c.in_ok-read_chunk.ensures.kept.kept.directory ∙ c.forget.ensures.kept.directory;
 }

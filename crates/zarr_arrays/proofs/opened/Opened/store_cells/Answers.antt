@@ -7,6 +7,6 @@ returns-clause-stored c = record {
   read = c.read_parts.new.store;
   kept = kept_on c.args.self.now.store c.forget.new.self c.read_parts.new.store c.forget.ensures.kept c.in_ok-read_parts.ensures.kept;
   asked = c.in_ok-read_parts.ensures.ask;
-  stores = c.in_ok-store_cells.ensures;
-  directory = c.in_ok-read_parts.ensures.kept.directory ∙ c.forget.ensures.kept.directory;
+  stores = c.in_ok-store_cells.ensures.stored;
+  directory = c.store_cells.ensures.directory ∙ c.in_ok-read_parts.ensures.kept.directory ∙ c.forget.ensures.kept.directory;
 }
