@@ -19,9 +19,8 @@ use Rattle.zarrs_data_type.specs.TypeMetadata.{kind_of, is_readable}
 use Rattle.zarrs_data_type_kinds.proofs.TypeReading.{kind_of-extension}
 use Rattle.zarrs_data_type.specs.Kind.{Kind}
 use Rattle.zarrs_codec.specs.ShardingMetadata.{sizes_of}
-use Rattle.zarrs_codec_array.specs.Configurations.{ArrayCodecData}
 use Rattle.zarrs_codec.specs.Metadata.{chain_said, extensions_of_chain}
-use Rattle.zarrs_codec.specs.Configurations.{BytesCodecData, ChainData}
+use Rattle.zarrs_codec.specs.Configurations.{ChainData}
 use Rattle.zarrs_metadata_v3.specs.Document.{DocumentData}
 use Rattle.zarrs_metadata.specs.Versions.{v3}
 use Rattle.zarrs_options.specs.Refusals.{CreateRefusal, data_type, chunk_grid, said_or, RefusesCreation}
@@ -50,13 +49,11 @@ none_zero (size ∷ sizes) =
 pub sized : (sizes : List NonZeroU64) (shape : List ℕ) → sizes_of sizes ≡ shape → sizes_said shape ≡ Ok tt
 sized sizes shape is = subst (λ (s : List ℕ). sizes_said s ≡ Ok tt) is (rw (none_zero sizes) refl)
 
--- subchunks of these sizes, which copies of the codecs encode
-pub chain_cut : (sizes : List NonZeroU64) (shape : List ℕ) (front a : List ArrayCodecData) (last b : BytesCodecData) (chain : ChainData) → sizes_of sizes ≡ shape → front ≡ a → last ≡ b
-    → chain ≡ cut_into (sizes_of sizes) (record { array_to_array = front; array_to_bytes = last }) → chain_chosen (Some shape) (record { array_to_array = a; array_to_bytes = b }) ≡ Ok chain
-chain_cut sizes shape front a last b chain is before after made =
-    let same : cut_into (sizes_of sizes) (record { array_to_array = front; array_to_bytes = last }) ≡ cut_into shape (record { array_to_array = a; array_to_bytes = b }) =
-    λ i. cut_into (is i) (record { array_to_array = before i; array_to_bytes = after i }) in
-    rw (sized sizes shape is) (ap Ok (sym (made ∙ same)))
+-- subchunks of these sizes, which these codecs encode
+pub chain_cut : (sizes : List NonZeroU64) (shape : List ℕ) (given codecs chain : ChainData) → sizes_of sizes ≡ shape → given ≡ codecs → chain ≡ cut_into (sizes_of sizes) given → chain_chosen (Some shape) codecs ≡ Ok chain
+chain_cut sizes shape given codecs chain is same made =
+    let cut : cut_into (sizes_of sizes) given ≡ cut_into shape codecs = λ i. cut_into (is i) (same i) in
+    rw (sized sizes shape is) (ap Ok (sym (made ∙ cut)))
 
 module _ (b : BuilderData) (f : FieldsData) (r : CreateRefusal) where
   pub at_type : RefusesCreation (said_or data_type f.data_type) r → RefusesCreation (chosen b f) r
@@ -125,6 +122,10 @@ module _ (b : BuilderData) (f : FieldsData) (e : fields_of b ≡ Some f) where
   pub parts_built : (path : List ℕ) (c : ChosenData) (m : DocumentData) (parts : Meaning) → path_said path ≡ Ok tt → chosen b f ≡ Ok c → creation_v3 m ≡ parts_of_fields b f c → creation_v3 m ≡ Ok parts → built_at path b ≡ Ok parts
   parts_built path c m parts valid made says is = rw (e, valid, made) (sym says ∙ is)
 
+-- the document of what is chosen
+pub document_made : (b : BuilderData) (f : FieldsData) (c : ChosenData) → chosen b f ≡ Ok c → (m : DocumentData) → m ≡ document_with b f c → document_of_fields b f ≡ Ok m
+document_made b f c made m is = rw made (ap Ok (sym is))
+
 -- what is chosen is refused, and so is its document
 pub document_refused : (b : BuilderData) (f : FieldsData) (r : CreateRefusal) → RefusesCreation (chosen b f) r → RefusesCreation (document_of_fields b f) r
 document_refused b f r is = bound _ _ r is
@@ -137,10 +138,10 @@ grid_back g shape over =
     subst (λ (s : List ℕ). grid_said (extension_of_grid (configuration_of g)) s ≡ Some (configuration_of g)) over
     (ap (option_and_then (over_shape (array_extents_of g))) (said_back g) ∙ ap (λ (t : Bool). cond t (Some (configuration_of g)) None) (own_taken g))
 
-pub document_creates : (b : BuilderData) (f : FieldsData) (c : ChosenData) → chain_said (extensions_of_chain c.chain) ≡ Some c.chain → grid_said (extension_of_grid c.grid) f.shape ≡ Some c.grid
+pub document_creates : (b : BuilderData) (f : FieldsData) (c : ChosenData) (m : DocumentData) → m ≡ document_with b f c → chain_said (extensions_of_chain c.chain) ≡ Some c.chain → grid_said (extension_of_grid c.grid) f.shape ≡ Some c.grid
     → fill_said c.kind c.fill_value ≡ Some c.fill → key_encoding_of (extension_of_encoding b.chunk_key_encoding) ≡ Some b.chunk_key_encoding → names_said (length f.shape) f.dimension_names ≡ Ok tt
-    → creation_v3 (document_with b f c) ≡ parts_of_fields b f c
-document_creates b f c chain grid fill keys named = go (is_readable c.kind) refl
+    → creation_v3 m ≡ parts_of_fields b f c
+document_creates b f c m written chain grid fill keys named = ap creation_v3 written ∙ go (is_readable c.kind) refl
   where
     go : (r : Bool) → is_readable c.kind ≡ r → creation_v3 (document_with b f c) ≡ parts_of_fields b f c
     go true is = all_said (document_with b f c) c.chain chain c.kind (kind_of-extension c.kind is) c.grid grid c.fill fill refl b.chunk_key_encoding keys named ∙ rw is refl

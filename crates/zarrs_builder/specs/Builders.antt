@@ -31,6 +31,7 @@ use Rattle.zarrs_builder.specs.Given.{type_given, FillData, by_metadata, fill_gi
 use Rattle.zarrs_builder.specs.declared.data_type.ArrayBuilderDataType.{ArrayBuilderDataType}
 use Rattle.zarrs_builder.specs.declared.fill_value.ArrayBuilderFillValue.{ArrayBuilderFillValue}
 use Rattle.zarrs_builder.specs.declared.builder.ArrayBuilder.{ArrayBuilder}
+use Rattle.zarrs_builder.specs.declared.builder.building.Fields.{Fields}
 
 -- The first six are none if they found no memory. A chunk grid and a data type are what is given for them, if that
 -- says one.
@@ -156,3 +157,13 @@ fields_of b = do
   n ← b.dimension_names
   sub ← b.subchunk_shape
   Some (record { shape = s; chunk_grid = g; data_type = k; fill_value = f; dimension_names = n; subchunk_shape = sub })
+
+abbrev pub found_fields : Fields → FieldsData
+found_fields f = record {
+  shape = f.shape.now;
+  chunk_grid = grid_given f.chunk_grid.now;
+  data_type = type_given f.data_type.now;
+  fill_value = fill_given f.fill_value.now;
+  dimension_names = option_map (λ names. map name_view names.items) f.dimension_names.now;
+  subchunk_shape = option_map (λ v. v.items) f.subchunk_shape.now;
+}

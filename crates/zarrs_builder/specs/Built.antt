@@ -1,5 +1,5 @@
 -- The metadata that a builder says, or the first refusal.
-use Rattle.std.specs.Prelude.{◌≡◌, ◌==◌, ℕ, List, [], length, false, Option, Some, None, Result, Ok, Err, is_some, if◌then◌else◌, option_and_then}
+use Rattle.std.specs.Prelude.{◌≡◌, ◌==◌, ℕ, List, [], length, false, Option, Some, None, Result, Ok, Err, IfOk, IfErr, is_some, if◌then◌else◌, option_and_then}
 use Rattle.std.specs.List.{list_any}
 use Rattle.serde_json.specs.Data.{Data}
 use Rattle.zarrs_metadata_parts.specs.Extension.{ExtensionData}
@@ -15,7 +15,11 @@ use Rattle.zarrs_codec.specs.Configurations.{BytesCodecData, ChainData, sharding
 use Rattle.zarrs_metadata_v3.specs.Document.{DocumentData}
 use Rattle.zarrs_metadata.specs.Versions.{MetadataData, v3}
 use Rattle.zarrs_options.specs.Refusals.{CreateRefusal, data_type, subchunk_shape, chunk_grid, fill_value, out_of_memory, said_or}
+use Rattle.zarrs_options.specs.Refusals.{create_refusal_of, RefusesCreation}
+use Rattle.zarrs_options.specs.declared.error.ArrayCreateError.{ArrayCreateError}
 use Rattle.zarrs_creation.specs.Meanings.{Meaning, creation_v3, path_said, names_said, ◌>>=◌}
+use Rattle.zarrs.specs.Arrays.{metadata_of_array, meaning_of_array, path_of_array, storage_of_array, HasSpecificOptions}
+use Rattle.zarrs.specs.declared.array.Array.{Array}
 use Rattle.zarrs_builder.specs.Given.{fill_chosen}
 use Rattle.zarrs_builder.specs.Builders.{BuilderData, FieldsData, fields_of}
 
@@ -114,3 +118,13 @@ built_at path b = found b >>= (λ f. path_said path >>= (λ valid. chosen b f >>
 -- the metadata of the array of a builder
 abbrev pub built_metadata : BuilderData → Result MetadataData CreateRefusal
 built_metadata b = built b >>= (λ m. Ok (v3 m))
+
+-- The array of a builder was made at this path and over this store, with the builder's options of single codecs and else the
+-- default ones: its grid, its keys, its chain, its type and its fill value are the builder's own. Or this is refused.
+pub record BuildsArray {S : Type 0} (b : BuilderData) (given_path : List ℕ) (given_storage : S) (result : Result (Array S) ArrayCreateError) : Type 0 where
+  pub metadata : IfOk result (λ a. built_metadata b ≡ Ok (metadata_of_array a))
+  pub parts : IfOk result (λ a. built_at given_path b ≡ Ok (meaning_of_array a))
+  pub path : IfOk result (λ a. path_of_array a ≡ given_path)
+  pub storage : IfOk result (λ a. storage_of_array a ≡ given_storage)
+  pub options : IfOk result (HasSpecificOptions b.codec_specific_options)
+  pub refused : IfErr result (λ e. RefusesCreation (built_at given_path b) (create_refusal_of e))

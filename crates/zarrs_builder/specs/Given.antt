@@ -28,7 +28,7 @@ kind_given (given_type.Text text) = option_and_then kind_of (extension_of_text (
 
 -- the data type that is given, if it is one
 abbrev pub type_given : ArrayBuilderDataType → Option Kind
-type_given t = kind_given t.given
+type_given t = kind_given t.0
 
 -- ---- a fill value
 
@@ -43,7 +43,7 @@ filling_given (given_fill.Metadata m) = by_metadata (fill_data m)
 
 -- the fill value that is given
 abbrev pub fill_given : ArrayBuilderFillValue → FillData
-fill_given f = filling_given f.given
+fill_given f = filling_given f.0
 
 -- the bytes of the fill value; those that are given as bytes may be no value of the type
 abbrev pub fill_chosen : Kind → FillData → Result (List ℕ) CreateRefusal

@@ -1,5 +1,4 @@
 pub mod Builders
 pub mod Built
 pub mod Lending
-pub mod Parts
 pub mod Given

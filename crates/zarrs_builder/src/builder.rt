@@ -9,11 +9,11 @@ pub use arrays::ToBuilder;
 use serde_json::{Map, Value};
 use std::alloc::{AllocError, Global};
 use zarrs_chunk_grid::{ChunkGrid, ChunkGridTraits};
-use zarrs_codec::{ArrayToArrayCodec, ArrayToBytesCodec, BytesToBytesCodecs, CodecSpecificOptions};
-use zarrs_data_type::IntoField;
+use zarrs_codec::{ArrayToArrayCodec, ArrayToBytesCodec, CodecSpecificOptions};
+use zarrs_data_type::{DataType, DataTypeFillValueError, FillValue, IntoField};
 use zarrs_keys::ChunkKeyEncoding;
-use zarrs_metadata::{AdditionalFieldsV3, ChunkKeySeparator, DimensionName};
-use zarrs_options::{ArrayBuilderChunkGridMetadata, StorageTransformerChain};
+use zarrs_metadata::{AdditionalFieldsV3, ChunkKeySeparator, DimensionName, FillValueMetadata};
+use zarrs_options::ArrayBuilderChunkGridMetadata;
 use zarrs_subset::ArrayShape;
 
 /// What a new array is to be: its shape, how it is cut into chunks and they into subchunks, the type of its cells and
@@ -33,10 +33,8 @@ pub struct ArrayBuilder {
     chunk_key_encoding: ChunkKeyEncoding,
     array_to_array_codecs: Vec<ArrayToArrayCodec>,
     array_to_bytes_codec: Option<ArrayToBytesCodec>,
-    bytes_to_bytes_codecs: BytesToBytesCodecs,
     attributes: Map<String, Value>,
     additional_fields: AdditionalFieldsV3,
-    storage_transformers: StorageTransformerChain,
     codec_specific_options: CodecSpecificOptions,
 }
 
@@ -70,10 +68,8 @@ impl ArrayBuilder {
             chunk_key_encoding: ChunkKeyEncoding::Default(ChunkKeySeparator::Slash),
             array_to_array_codecs: Vec::new(alloc),
             array_to_bytes_codec: None,
-            bytes_to_bytes_codecs: BytesToBytesCodecs,
             attributes: Map::new(alloc),
             additional_fields: Map::new(alloc),
-            storage_transformers: StorageTransformerChain,
             codec_specific_options: CodecSpecificOptions::default(),
         }
     }
@@ -93,23 +89,16 @@ impl ArrayBuilder {
         ArrayBuilder {
             shape: Vec::from_slice(alloc, chunk_grid.array_shape()),
             chunk_grid: grid_field(alloc, &chunk_grid),
-            data_type: data_type.into_field(alloc),
-            fill_value: fill_value.into_fill_value(alloc),
-            dimension_names: Ok(None),
-            subchunk_shape: Ok(None),
-            chunk_key_encoding: ChunkKeyEncoding::Default(ChunkKeySeparator::Slash),
-            array_to_array_codecs: Vec::new(alloc),
-            array_to_bytes_codec: None,
-            bytes_to_bytes_codecs: BytesToBytesCodecs,
-            attributes: Map::new(alloc),
-            additional_fields: Map::new(alloc),
-            storage_transformers: StorageTransformerChain,
-            codec_specific_options: CodecSpecificOptions::default(),
+            ..ArrayBuilder::new(alloc, [0; 0], [0u64; 0], data_type, fill_value)
         }
     }
 }
 
-ghost use Rattle.std.specs.Prelude.{◌≡◌, Some, IfOk};
+ghost use Rattle.std.specs.Prelude.{◌≡◌, Some, IfOk, IsSome};
+ghost use Rattle.zarrs_metadata_parts.specs.FillValue.{fill_data};
+ghost use Rattle.zarrs_data_type.specs.Cell.{fill_cell};
+ghost use Rattle.zarrs_data_type.specs.FillMetadata.{fill_written};
+ghost use Rattle.zarrs_data_type.specs.Kind.{kind};
 ghost use Rattle.zarrs_chunk_grid.specs.GridView.{configuration_of};
 ghost use Rattle.zarrs_chunk_grid.specs.Metadata.{extension_of_grid};
 ghost use Rattle.zarrs_options.specs.Given.{grid_given};
@@ -120,4 +109,20 @@ fn grid_field(alloc: Global, grid: &ChunkGrid) -> Result<ArrayBuilderChunkGridMe
         ≡ Some (extension_of_grid (configuration_of grid.now))) }
 {
     grid.metadata(alloc)?.into_field(alloc)
+}
+
+/// Returns the metadata of a fill value of the data type.
+fn fill_metadata(
+    alloc: Global,
+    data_type: &DataType,
+    fill_value: &FillValue,
+) -> Result<FillValueMetadata, AllocError>
+    requires { IsSome (fill_cell (kind data_type.now) fill_value.now) }
+    ensures { IfOk result (λ m. fill_data m ≡ fill_written (kind data_type.now) fill_value.now) }
+{
+    match data_type.metadata_fill_value(alloc, fill_value) {
+        Ok(metadata) => Ok(metadata),
+        Err(DataTypeFillValueError::OutOfMemory) => Err(AllocError),
+        Err(DataTypeFillValueError::Invalid) => unreachable!(),
+    }
 }

@@ -27,9 +27,7 @@ enum GivenType {
 
 /// What says a data type: the data type, its metadata, or a text that is its name or its metadata in JSON.
 #[derive(Debug, Drop)]
-pub struct ArrayBuilderDataType {
-    given: GivenType,
-}
+pub struct ArrayBuilderDataType(GivenType);
 
 impl ArrayBuilderDataType {
     /// Returns the data type.
@@ -41,24 +39,17 @@ impl ArrayBuilderDataType {
         ensures refused { IfErr result (λ e. RefusesCreation
             (said_or refusal.data_type (type_given self.now)) (create_refusal_of e)) }
     {
-        match &self.given {
+        match &self.0 {
             GivenType::DataType(data_type) => Ok(data_type.try_clone(alloc)?),
             GivenType::Metadata(metadata) => data_type_from(alloc, metadata),
             GivenType::Text(text) => match extension_of_text(alloc, text.as_str())? {
                 Some(metadata) => data_type_from(alloc, &metadata),
-                None => Err(no_metadata(alloc)),
+                None => {
+                    let text = String::from_str(alloc, "the text is no metadata of a data type")?;
+                    Err(ArrayCreateError::DataTypeCreateError(PluginCreateError::Other(text)))
+                }
             },
         }
-    }
-}
-
-fn no_metadata(alloc: Global) -> ArrayCreateError
-    ensures { RefusesCreation (said_or {A = Unit {0}} refusal.data_type None)
-        (create_refusal_of result) }
-{
-    match PluginCreateError::other(alloc, "the text is no metadata of a data type") {
-        PluginCreateError::OutOfMemory => ArrayCreateError::OutOfMemory,
-        error => ArrayCreateError::DataTypeCreateError(error),
     }
 }
 
@@ -79,9 +70,7 @@ impl IntoField<ArrayBuilderDataType> for DataType {
         ensures field { IfOk result (λ field. type_given field ≡ Some (kind self)) }
         ensures made { IsOk result }
     {
-        Ok(ArrayBuilderDataType {
-            given: GivenType::DataType(self),
-        })
+        Ok(ArrayBuilderDataType(GivenType::DataType(self)))
     }
 }
 
@@ -92,9 +81,7 @@ impl IntoField<ArrayBuilderDataType> for MetadataV3 {
         ensures field { IfOk result (λ field. type_given field ≡ kind_of (extension_view self)) }
         ensures made { IsOk result }
     {
-        Ok(ArrayBuilderDataType {
-            given: GivenType::Metadata(self),
-        })
+        Ok(ArrayBuilderDataType(GivenType::Metadata(self)))
     }
 }
 
@@ -107,9 +94,7 @@ impl IntoField<ArrayBuilderDataType> for String {
             ≡ option_and_then kind_of (extension_of_text (string_bytes self))) }
         ensures made { IsOk result }
     {
-        Ok(ArrayBuilderDataType {
-            given: GivenType::Text(self),
-        })
+        Ok(ArrayBuilderDataType(GivenType::Text(self)))
     }
 }
 
@@ -118,8 +103,6 @@ impl IntoField<ArrayBuilderDataType> for &str {
         ≡ option_and_then kind_of (extension_of_text text.now) };
 
     fn into_field(self, alloc: Global) -> Result<ArrayBuilderDataType, AllocError> {
-        Ok(ArrayBuilderDataType {
-            given: GivenType::Text(String::from_str(alloc, self)?),
-        })
+        String::from_str(alloc, self)?.into_field(alloc)
     }
 }

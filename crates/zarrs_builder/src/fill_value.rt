@@ -1,19 +1,18 @@
 //! The fill value of a builder, as a caller may give it.
-ghost use Rattle.std.specs.Prelude.{◌≡◌, None, Ok, IfOk, IfErr, IsOk};
+ghost use Rattle.std.specs.Prelude.{◌≡◌, Ok, IfOk, IfErr, IsOk};
 ghost use Rattle.serde_json.specs.Data.{string};
 ghost use Rattle.serde_json.specs.View.{view};
 ghost use Rattle.zarrs_metadata_parts.specs.FillValue.{fill_data};
 ghost use Rattle.zarrs_data_type.specs.Kind.{kind};
-ghost use Rattle.zarrs_data_type.specs.TypeMetadata.{kind_name};
-ghost use Rattle.zarrs_options.specs.Refusals.{RefusesCreation, create_refusal_of, said_or};
-ghost use Rattle.zarrs_options.specs.Refusals as refusal;
+ghost use Rattle.zarrs_options.specs.Refusals.{RefusesCreation, create_refusal_of};
 ghost use Rattle.zarrs_builder.specs.Given.{fill_chosen, by_bytes, by_metadata, fill_given};
 ghost use Rattle.zarrs_builder.specs.Given.{SaysJson, SaysList};
 ghost use Rattle.zarrs_builder.specs.declared.fill_value.ArrayBuilderFillValue.{ArrayBuilderFillValue};
 
 use serde_json::Value;
 use std::alloc::{AllocError, Global};
-use zarrs_data_type::{DataType, DataTypeFillValueMetadataError, FillValue};
+use zarrs_creation::fill_value_from;
+use zarrs_data_type::{DataType, FillValue};
 use zarrs_metadata::FillValueMetadata;
 use zarrs_options::ArrayCreateError;
 
@@ -28,9 +27,7 @@ enum GivenFill {
 /// What says a fill value: its bytes, or metadata as the data type reads it. A bool, a whole number, a text and a list
 /// of whole numbers are metadata.
 #[derive(Debug, Drop)]
-pub struct ArrayBuilderFillValue {
-    given: GivenFill,
-}
+pub struct ArrayBuilderFillValue(GivenFill);
 
 impl ArrayBuilderFillValue {
     /// Returns the fill value of this data type. Bytes are not tested.
@@ -47,18 +44,19 @@ impl ArrayBuilderFillValue {
         ensures refused { IfErr result (λ e. RefusesCreation
             (fill_chosen (kind data_type.now) (fill_given self.now)) (create_refusal_of e)) }
     {
-        match &self.given {
+        match &self.0 {
             GivenFill::FillValue(fill_value) => Ok(fill_value.try_clone(alloc)?),
-            GivenFill::Metadata(metadata) => value_of_metadata(alloc, data_type, metadata),
+            GivenFill::Metadata(metadata) => {
+                let name = data_type.name_v3(alloc)?;
+                fill_value_from(alloc, data_type, name.as_str(), metadata)
+            }
         }
     }
 
     fn of_value(value: Value) -> ArrayBuilderFillValue
         ensures { fill_given result ≡ by_metadata (view value) }
     {
-        ArrayBuilderFillValue {
-            given: GivenFill::Metadata(FillValueMetadata::from_value(value)),
-        }
+        ArrayBuilderFillValue(GivenFill::Metadata(FillValueMetadata::from_value(value)))
     }
 
     fn of_list<T: FillScalar + Copy>(
@@ -72,48 +70,6 @@ impl ArrayBuilderFillValue {
             values.push((*item).into())?;
         }
         Ok(ArrayBuilderFillValue::of_value(Value::Array(values)))
-    }
-}
-
-fn value_of_metadata(
-    alloc: Global,
-    data_type: &DataType,
-    metadata: &FillValueMetadata,
-) -> Result<FillValue, ArrayCreateError>
-    ensures made { IfOk result
-        (λ f. fill_chosen (kind data_type.now) (by_metadata (fill_data metadata.now)) ≡ Ok f) }
-    ensures refused { IfErr result (λ e. RefusesCreation
-        (fill_chosen (kind data_type.now) (by_metadata (fill_data metadata.now)))
-        (create_refusal_of e)) }
-{
-    match data_type.fill_value_v3(alloc, metadata) {
-        Ok(fill_value) => Ok(fill_value),
-        Err(DataTypeFillValueMetadataError::OutOfMemory) => Err(ArrayCreateError::OutOfMemory),
-        Err(DataTypeFillValueMetadataError::Invalid) => {
-            Err(invalid_metadata(alloc, data_type, metadata))
-        }
-    }
-}
-
-/// Makes the refusal of this metadata as that of a fill value of the data type.
-fn invalid_metadata(
-    alloc: Global,
-    data_type: &DataType,
-    metadata: &FillValueMetadata,
-) -> ArrayCreateError
-    ensures { RefusesCreation (said_or {A = Unit {0}} (refusal.fill_value_metadata
-        (kind_name (kind data_type.now)) (fill_data metadata.now)) None)
-        (create_refusal_of result) }
-{
-    let Ok(data_type_name) = data_type.name_v3(alloc) else {
-        return ArrayCreateError::OutOfMemory;
-    };
-    let Ok(fill_value_metadata) = metadata.try_clone(alloc) else {
-        return ArrayCreateError::OutOfMemory;
-    };
-    ArrayCreateError::InvalidFillValueMetadata {
-        data_type_name,
-        fill_value_metadata,
     }
 }
 
@@ -147,9 +103,7 @@ impl IntoFillValue for FillValue {
         ensures given { IfOk result (λ field. fill_given field ≡ by_bytes self) }
         ensures made { IsOk result }
     {
-        Ok(ArrayBuilderFillValue {
-            given: GivenFill::FillValue(self),
-        })
+        Ok(ArrayBuilderFillValue(GivenFill::FillValue(self)))
     }
 }
 
@@ -160,9 +114,7 @@ impl IntoFillValue for FillValueMetadata {
         ensures given { IfOk result (λ field. fill_given field ≡ by_metadata (fill_data self)) }
         ensures made { IsOk result }
     {
-        Ok(ArrayBuilderFillValue {
-            given: GivenFill::Metadata(self),
-        })
+        Ok(ArrayBuilderFillValue(GivenFill::Metadata(self)))
     }
 }
 

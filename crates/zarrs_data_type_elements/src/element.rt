@@ -137,21 +137,21 @@ pub trait ElementOwned: Element {
     fn options_from_array_bytes(
         alloc: Global,
         data_type: &DataType,
-        array_bytes: ArrayBytes<'_>,
+        array_bytes: &ArrayBytes<'_>,
     ) -> Result<Vec<Option<Self>>, ElementError>
         ensures cells { IfOk result
-            (λ options. cells (kind data_type.now) (data_of array_bytes.entry)
+            (λ options. cells (kind data_type.now) (data_of array_bytes.now)
             ≡ Some (map (option_cell Self.cell) options.items)) }
         ensures served { OnOk result (option_map_or Self.serves (inner_of (kind data_type.now)) false
             ≡ true) }
         ensures refused { IfErr result (RefusesCells
             (option_map_or Self.serves (inner_of (kind data_type.now)) false) (cells
-            (kind data_type.now) (data_of array_bytes.entry))) }
+            (kind data_type.now) (data_of array_bytes.now))) }
     {
         let Some(inner) = data_type.optional_inner() else {
             return Err(ElementError::IncompatibleElementType);
         };
-        let ArrayBytes::Optional(optional) = &array_bytes else {
+        let ArrayBytes::Optional(optional) = array_bytes else {
             return Err(ElementError::IncompatibleElementType);
         };
         let mask = optional.mask();

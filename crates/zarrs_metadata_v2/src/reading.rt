@@ -47,11 +47,8 @@ pub(crate) fn read_document(
 ) -> Result<ArrayMetadataV2, Unread>
     ensures { Reads document_v2_view (document_v2_from (members_view members.entries)) result }
 {
-    let parts = Parts::take(members);
-    if !reads_as_number(&parts.zarr_format, 2) {
-        return Err(fault(&parts.zarr_format, "zarr_format", "is not 2"));
-    }
-    parts.read(alloc)
+    let mut parts = Parts::take(members);
+    parts.read_array(alloc)
 }
 
 impl Parts {
@@ -72,20 +69,31 @@ impl Parts {
         }
     }
 
-    fn read(self, alloc: Global) -> Result<ArrayMetadataV2, Unread>
-        ensures { (ms : Members) → AreParts ms self
+    /// Reads the members, if they are those of a V2 array.
+    fn read_array(&mut self, alloc: Global) -> Result<ArrayMetadataV2, Unread>
+        ensures { (ms : Members) → AreParts ms self.old
+            → Reads document_v2_view (document_v2_from ms) result }
+    {
+        if !reads_as_number(&self.zarr_format, 2) {
+            return Err(fault(&self.zarr_format, "zarr_format", "is not 2"));
+        }
+        self.read(alloc)
+    }
+
+    fn read(&mut self, alloc: Global) -> Result<ArrayMetadataV2, Unread>
+        ensures { (ms : Members) → AreParts ms self.old
             → Reads document_v2_view (document_v2_in ms) result }
     {
         Ok(ArrayMetadataV2 {
-            shape: numbers_in(alloc, self.shape, "shape")?,
-            chunks: sizes_in(alloc, self.chunks)?,
-            dtype: data_type_in(self.dtype)?,
-            compressor: present(self.compressor, "compressor")?,
-            fill_value: fill_value_in(self.fill_value)?,
-            order: order_in(self.order)?,
-            filters: present(self.filters, "filters")?,
-            dimension_separator: dimension_separator_in(self.dimension_separator)?,
-            attributes: attributes_in(alloc, self.attributes)?,
+            shape: numbers_in(alloc, self.shape.take(), "shape")?,
+            chunks: sizes_in(alloc, self.chunks.take())?,
+            dtype: data_type_in(self.dtype.take())?,
+            compressor: present(self.compressor.take(), "compressor")?,
+            fill_value: fill_value_in(self.fill_value.take())?,
+            order: order_in(self.order.take())?,
+            filters: present(self.filters.take(), "filters")?,
+            dimension_separator: dimension_separator_in(self.dimension_separator.take())?,
+            attributes: attributes_in(alloc, self.attributes.take())?,
         })
     }
 }

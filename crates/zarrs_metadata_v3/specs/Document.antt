@@ -4,7 +4,7 @@ use Rattle.std.specs.Prelude.{Some, None, option_map, option_and_then}
 use Rattle.std.specs.Str.{IsUtf8}
 use Rattle.json.specs.Lex.{tokens}
 use Rattle.json.specs.Layout.{pretty}
-use Rattle.serde_json.specs.Data.{Data, depth, null, boolean, number, string, array, object, Members, no_members, member}
+use Rattle.serde_json.specs.Data.{Data, depth, null, boolean, number, string, array, object, Members, no_members}
 use Rattle.serde_json.specs.Find.{get_member, as_object}
 use Rattle.serde_json.specs.Written.{has_float, IsInOrder}
 use Rattle.serde_json.specs.Read.{read, max_depth}

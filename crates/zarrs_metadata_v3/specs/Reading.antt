@@ -2,12 +2,10 @@
 use Rattle.std.specs.Prelude.{◌≡◌, codes, option_map}
 use Rattle.serde_json.specs.Data.{Members}
 use Rattle.serde_json.specs.Find.{get_member}
-use Rattle.serde_json.specs.View.{view, members_view}
-use Rattle.zarrs_metadata_parts.specs.Members.{besides}
-use Rattle.zarrs_metadata_v3.specs.Document.{document_names}
+use Rattle.serde_json.specs.View.{view}
 use Rattle.zarrs_metadata_v3.specs.declared.reading.Parts.{Parts}
 
--- these are the members of a document, each under its name, and the others
+-- these are the members of a document, each under its name
 pub record AreParts (ms : Members) (p : Parts) : Type 0 where
   pub zarr_format : option_map view p.zarr_format ≡ get_member (codes "zarr_format") ms
   pub node_type : option_map view p.node_type ≡ get_member (codes "node_type") ms
@@ -20,4 +18,3 @@ pub record AreParts (ms : Members) (p : Parts) : Type 0 where
   pub attributes : option_map view p.attributes ≡ get_member (codes "attributes") ms
   pub storage_transformers : option_map view p.storage_transformers ≡ get_member (codes "storage_transformers") ms
   pub dimension_names : option_map view p.dimension_names ≡ get_member (codes "dimension_names") ms
-  pub others : members_view p.others.entries ≡ besides document_names ms

@@ -23,7 +23,7 @@ use serde_json::{Map, Value};
 use std::alloc::{AllocError, Global};
 use zarrs_metadata_parts::MetadataV3;
 
-/// The members of a document, and the others.
+/// The members of a document.
 #[derive(Drop)]
 pub(crate) struct Parts {
     zarr_format: Option<Value>,
@@ -37,7 +37,6 @@ pub(crate) struct Parts {
     attributes: Option<Value>,
     storage_transformers: Option<Value>,
     dimension_names: Option<Value>,
-    others: Map<String, Value>,
 }
 
 /// Reads the document that these members are.
@@ -46,40 +45,41 @@ pub(crate) struct Parts {
 /// `Missing` or `Wrong` for the first member that does not read. `OutOfMemory` may come at any time.
 pub(crate) fn read_document(
     alloc: Global,
-    members: Map<String, Value>,
+    mut members: Map<String, Value>,
 ) -> Result<ArrayMetadataV3, Unread>
     ensures { Reads document_view (document_from (members_view members.entries)) result }
 {
-    let parts = Parts::take(members);
-    parts.check_array()?;
-    parts.read(alloc)
+    let mut parts = Parts::take(&mut members);
+    parts.read_array(alloc, members)
 }
 
 /// Returns the members under names that a document does not use.
-pub(crate) fn other_members(members: Map<String, Value>) -> Map<String, Value>
+pub(crate) fn other_members(mut members: Map<String, Value>) -> Map<String, Value>
     ensures { members_view result.entries
         ≡ besides document_names (members_view members.entries) }
 {
-    Parts::take(members).others
+    let _parts = Parts::take(&mut members);
+    members
 }
 
 impl Parts {
-    fn take(mut members: Map<String, Value>) -> Parts
-        ensures { AreParts (members_view members.entries) result }
+    fn take(members: &mut Map<String, Value>) -> Parts
+        ensures taken { AreParts (members_view members.old.entries) result }
+        ensures left { members_view members.new.entries
+            ≡ besides document_names (members_view members.old.entries) }
     {
         Parts {
-            zarr_format: take_member(&mut members, "zarr_format"),
-            node_type: take_member(&mut members, "node_type"),
-            shape: take_member(&mut members, "shape"),
-            data_type: take_member(&mut members, "data_type"),
-            chunk_grid: take_member(&mut members, "chunk_grid"),
-            chunk_key_encoding: take_member(&mut members, "chunk_key_encoding"),
-            fill_value: take_member(&mut members, "fill_value"),
-            codecs: take_member(&mut members, "codecs"),
-            attributes: take_member(&mut members, "attributes"),
-            storage_transformers: take_member(&mut members, "storage_transformers"),
-            dimension_names: take_member(&mut members, "dimension_names"),
-            others: members,
+            zarr_format: take_member(members, "zarr_format"),
+            node_type: take_member(members, "node_type"),
+            shape: take_member(members, "shape"),
+            data_type: take_member(members, "data_type"),
+            chunk_grid: take_member(members, "chunk_grid"),
+            chunk_key_encoding: take_member(members, "chunk_key_encoding"),
+            fill_value: take_member(members, "fill_value"),
+            codecs: take_member(members, "codecs"),
+            attributes: take_member(members, "attributes"),
+            storage_transformers: take_member(members, "storage_transformers"),
+            dimension_names: take_member(members, "dimension_names"),
         }
     }
 
@@ -96,20 +96,37 @@ impl Parts {
         Ok(())
     }
 
-    fn read(self, alloc: Global) -> Result<ArrayMetadataV3, Unread>
-        ensures { (ms : Members) → AreParts ms self → Reads document_view (document_in ms) result }
+    /// Reads the members, if they are those of a V3 array, and the others as fields.
+    fn read_array(
+        &mut self,
+        alloc: Global,
+        others: Map<String, Value>,
+    ) -> Result<ArrayMetadataV3, Unread>
+        ensures { (ms : Members) → AreParts ms self.old
+            → members_view others.entries ≡ besides document_names ms
+            → Reads document_view (document_from ms) result }
+    {
+        self.check_array()?;
+        self.read(alloc, others)
+    }
+
+    /// Reads the members, and the others as fields.
+    fn read(&mut self, alloc: Global, others: Map<String, Value>) -> Result<ArrayMetadataV3, Unread>
+        ensures { (ms : Members) → AreParts ms self.old
+            → members_view others.entries ≡ besides document_names ms
+            → Reads document_view (document_in ms) result }
     {
         Ok(ArrayMetadataV3 {
-            shape: numbers_in(alloc, self.shape, "shape")?,
-            data_type: extension_in(self.data_type, "data_type")?,
-            chunk_grid: extension_in(self.chunk_grid, "chunk_grid")?,
-            chunk_key_encoding: extension_in(self.chunk_key_encoding, "chunk_key_encoding")?,
-            fill_value: fill_value_in(self.fill_value)?,
-            codecs: extensions_in(alloc, self.codecs, "codecs")?,
-            attributes: attributes_in(alloc, self.attributes)?,
-            storage_transformers: transformers_in(alloc, self.storage_transformers)?,
-            dimension_names: names_in(alloc, self.dimension_names)?,
-            additional_fields: read_fields(alloc, self.others)?,
+            shape: numbers_in(alloc, self.shape.take(), "shape")?,
+            data_type: extension_in(self.data_type.take(), "data_type")?,
+            chunk_grid: extension_in(self.chunk_grid.take(), "chunk_grid")?,
+            chunk_key_encoding: extension_in(self.chunk_key_encoding.take(), "chunk_key_encoding")?,
+            fill_value: fill_value_in(self.fill_value.take())?,
+            codecs: extensions_in(alloc, self.codecs.take(), "codecs")?,
+            attributes: attributes_in(alloc, self.attributes.take())?,
+            storage_transformers: transformers_in(alloc, self.storage_transformers.take())?,
+            dimension_names: names_in(alloc, self.dimension_names.take())?,
+            additional_fields: read_fields(alloc, others)?,
         })
     }
 }

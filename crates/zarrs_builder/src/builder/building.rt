@@ -1,26 +1,21 @@
 //! Metadata and arrays of a builder.
-ghost use Rattle.std.specs.Prelude.{◌≡◌, false, map, option_map, length, Some, None, Ok, IfOk, IfErr, OnOk};
+ghost use Rattle.std.specs.Prelude.{◌≡◌, option_map, Some, Ok, IfOk, IfErr, OnOk};
+ghost use Rattle.zarrs_creation.specs.Meanings.{path_said};
 ghost use Rattle.zarrs_metadata_parts.specs.FillValue.{fill_data};
-ghost use Rattle.zarrs_keys.specs.Paths.{is_node_path};
 ghost use Rattle.zarrs_chunk_grid.specs.GridView.{array_extents_of, configuration_of};
-ghost use Rattle.zarrs_chunk_grid.specs.Metadata.{grid_said};
 ghost use Rattle.zarrs_data_type.specs.FillMetadata.{fill_said};
 ghost use Rattle.zarrs_data_type.specs.Kind.{kind};
-ghost use Rattle.zarrs_data_type.specs.TypeMetadata.{kind_name};
-ghost use Rattle.zarrs_codec_array.specs.ArrayCodecs.{array_codec_data};
 ghost use Rattle.zarrs_codec.specs.ShardingMetadata.{sizes_of};
-ghost use Rattle.zarrs_codec.specs.Chains.{bytes_codec_data, chain_data};
-ghost use Rattle.zarrs_codec.specs.Configurations.{sharding};
-ghost use Rattle.zarrs_metadata_v3.specs.View.{document_view, name_view};
+ghost use Rattle.zarrs_codec.specs.Chains.{chain_data};
+ghost use Rattle.zarrs_metadata_v3.specs.View.{document_view};
 ghost use Rattle.zarrs_options.specs.Given.{grid_given};
 ghost use Rattle.zarrs_options.specs.Refusals.{RefusesCreation, create_refusal_of, said_or};
 ghost use Rattle.zarrs_options.specs.Refusals as refusal;
-ghost use Rattle.zarrs_creation.specs.Meanings.{creation_v3, names_said, path_said};
-ghost use Rattle.zarrs_builder.specs.Built.{chain_chosen, codec_chosen, cut_into, grid_chosen};
+ghost use Rattle.zarrs_builder.specs.Built.{chain_chosen, cut_into, grid_chosen};
 ghost use Rattle.zarrs_builder.specs.Built.{fill_stated, sizes_said};
 
-use super::ArrayBuilder;
-use crate::copies::{copied_codecs, copied_dimension_names, copied_fields};
+use super::{ArrayBuilder, fill_metadata};
+use crate::copies::copied_codecs;
 use crate::data_type::ArrayBuilderDataType;
 use crate::fill_value::ArrayBuilderFillValue;
 use std::alloc::{AllocError, Global};
@@ -28,17 +23,18 @@ use std::num::NonZeroU64;
 use zarrs::Array;
 use zarrs_chunk_grid::{ChunkGrid, ChunkGridTraits, ChunkShape};
 use zarrs_codec::{
-    ArrayToArrayCodec, ArrayToBytesCodec, BytesToBytesCodecs, CodecChain, ShardingCodecBuilder,
+    ArrayToBytesCodec, BytesToBytesCodecs, CodecChain, ShardingCodec, ShardingIndexLocation,
     default_array_to_bytes_codec,
 };
-use zarrs_data_type::{DataType, DataTypeFillValueError, FillValue};
+use zarrs_creation::{check_names, grid_from};
+use zarrs_data_type::{DataType, FillValue};
 use zarrs_data_type_kinds::laws::written_fill_value_is_read;
 use zarrs_keys::NodePath;
-use zarrs_metadata::{
-    ArrayMetadata, ArrayMetadataV3, DimensionName, FillValueMetadata, PluginCreateError,
-};
+use zarrs_metadata::{ArrayMetadata, ArrayMetadataV3, DimensionName, FillValueMetadata};
 use zarrs_metadata_parts::members::copied;
+use zarrs_metadata_v3::{copied_dimension_names, copied_fields};
 use zarrs_options::{ArrayBuilderChunkGridMetadata, ArrayCreateError};
+use zarrs_subset::ArrayShape;
 
 /// The fields that callers' values became, each of which found memory.
 #[derive(Drop)]
@@ -47,30 +43,14 @@ struct Fields<'a> {
     chunk_grid: &'a ArrayBuilderChunkGridMetadata,
     data_type: &'a ArrayBuilderDataType,
     fill_value: &'a ArrayBuilderFillValue,
-    dimension_names: Option<&'a [DimensionName]>,
-    subchunk_shape: Option<&'a [u64]>,
-}
-
-/// What the fields say.
-#[derive(Drop)]
-struct Chosen {
-    data_type: DataType,
-    chain: CodecChain,
-    grid: ChunkGrid,
-    fill_value: FillValue,
-    /// The metadata of the fill value.
-    stated: FillValueMetadata,
+    dimension_names: &'a Option<Vec<DimensionName>>,
+    subchunk_shape: &'a Option<ArrayShape>,
 }
 
 impl ArrayBuilder {
-    ghost use Rattle.zarrs_metadata.specs.Versions.{v3};
-    ghost use Rattle.zarrs.specs.Arrays.{meaning_of_array, metadata_of_array, path_of_array};
-    ghost use Rattle.zarrs.specs.Arrays.{storage_of_array, HasSpecificOptions};
-    ghost use Rattle.zarrs_builder.specs.Builders.{builder_view, fields_of};
-    ghost use Rattle.zarrs_builder.specs.Built.{chosen, codecs_chosen, document_with};
-    ghost use Rattle.zarrs_builder.specs.Built.{document_of_fields, parts_of_fields, SaysChosen};
-    ghost use Rattle.zarrs_builder.specs.Built.{built, built_at, built_metadata};
-    ghost use Rattle.zarrs_builder.specs.Parts.{found_fields, chosen_view};
+    ghost use Rattle.zarrs_builder.specs.Builders.{builder_view, fields_of, found_fields};
+    ghost use Rattle.zarrs_builder.specs.Built.{built, chosen, codecs_chosen, document_of_fields};
+    ghost use Rattle.zarrs_builder.specs.Built.{SaysChosen, BuildsArray};
 
     /// Returns the V3 metadata of the array: the data type, the chunk grid and the codecs by their main names, and the
     /// fill value as the data type writes it.
@@ -84,9 +64,7 @@ impl ArrayBuilder {
         ensures refused { IfErr result (λ e. RefusesCreation
             (built (builder_view self.now)) (create_refusal_of e)) }
     {
-        let fields = self.fields()?;
-        let metadata = self.metadata_of(alloc, &fields)?;
-        Ok(metadata)
+        self.metadata_of(alloc, &self.fields()?)
     }
 
     /// Makes the array at the path of the store, with the metadata of `build_metadata`, the builder's options of single
@@ -102,17 +80,7 @@ impl ArrayBuilder {
         storage: TStorage,
         path: &str,
     ) -> Result<Array<TStorage>, ArrayCreateError>
-        ensures metadata { IfOk result
-            (λ a. built_metadata (builder_view self.now) ≡ Ok (metadata_of_array a)) }
-        // Its grid, its keys, its chain, its type and its fill value are the builder's own.
-        ensures parts { IfOk result
-            (λ a. built_at path.now (builder_view self.now) ≡ Ok (meaning_of_array a)) }
-        ensures path { IfOk result (λ a. path_of_array a ≡ path.now) }
-        ensures storage { IfOk result (λ a. storage_of_array a ≡ storage) }
-        ensures options { IfOk result
-            (HasSpecificOptions (builder_view self.now).codec_specific_options) }
-        ensures refused { IfErr result (λ e. RefusesCreation
-            (built_at path.now (builder_view self.now)) (create_refusal_of e)) }
+        ensures { BuildsArray (builder_view self.now) path.now storage result }
     {
         let fields = self.fields()?;
         check_path(alloc, path)?;
@@ -131,17 +99,7 @@ impl ArrayBuilder {
         storage: TStorage,
         path: &str,
     ) -> Result<Array<TStorage>, ArrayCreateError>
-        ensures metadata { IfOk result
-            (λ a. built_metadata (builder_view self.now) ≡ Ok (metadata_of_array a)) }
-        // Its grid, its keys, its chain, its type and its fill value are the builder's own.
-        ensures parts { IfOk result
-            (λ a. built_at path.now (builder_view self.now) ≡ Ok (meaning_of_array a)) }
-        ensures path { IfOk result (λ a. path_of_array a ≡ path.now) }
-        ensures storage { IfOk result (λ a. storage_of_array a ≡ storage) }
-        ensures options { IfOk result
-            (HasSpecificOptions (builder_view self.now).codec_specific_options) }
-        ensures refused { IfErr result (λ e. RefusesCreation
-            (built_at path.now (builder_view self.now)) (create_refusal_of e)) }
+        ensures { BuildsArray (builder_view self.now) path.now storage result }
     {
         self.build(alloc, storage, path)
     }
@@ -152,19 +110,13 @@ impl ArrayBuilder {
             (λ f. fields_of (builder_view self.now) ≡ Some (found_fields f)) }
         ensures refused { IfErr result (λ e. e ≡ ArrayCreateError.OutOfMemory) }
     {
-        let shape = found(&self.shape)?;
-        let chunk_grid = found(&self.chunk_grid)?;
-        let data_type = found(&self.data_type)?;
-        let fill_value = found(&self.fill_value)?;
-        let dimension_names = found(&self.dimension_names)?;
-        let subchunk_shape = found(&self.subchunk_shape)?;
         Ok(Fields {
-            shape: shape.as_slice(),
-            chunk_grid,
-            data_type,
-            fill_value,
-            dimension_names: names_in(dimension_names),
-            subchunk_shape: shape_in(subchunk_shape),
+            shape: found(&self.shape)?.as_slice(),
+            chunk_grid: found(&self.chunk_grid)?,
+            data_type: found(&self.data_type)?,
+            fill_value: found(&self.fill_value)?,
+            dimension_names: found(&self.dimension_names)?,
+            subchunk_shape: found(&self.subchunk_shape)?,
         })
     }
 
@@ -181,35 +133,23 @@ impl ArrayBuilder {
         ensures refused { IfErr result (λ e. RefusesCreation (chosen (builder_view self.now)
             (found_fields fields.now)) (create_refusal_of e)) }
     {
-        let chosen = self.chosen(alloc, fields)?;
-        let metadata = self.document(alloc, fields, chosen)?;
-        Ok(metadata)
-    }
-
-    /// Returns what the fields say.
-    fn chosen(&self, alloc: Global, fields: &Fields<'_>) -> Result<Chosen, ArrayCreateError>
-        ensures made { IfOk result (λ c. chosen (builder_view self.now)
-            (found_fields fields.now) ≡ Ok (chosen_view c)) }
-        ensures over { IfOk result (λ c. array_extents_of c.grid ≡ (found_fields fields.now).shape) }
-        ensures named { OnOk result (names_said (length (found_fields fields.now).shape)
-            (found_fields fields.now).dimension_names ≡ Ok tt) }
-        ensures read { IfOk result
-            (λ c. fill_said (kind c.data_type) (fill_data c.stated) ≡ Some c.fill_value) }
-        ensures refused { IfErr result (λ e. RefusesCreation (chosen (builder_view self.now)
-            (found_fields fields.now)) (create_refusal_of e)) }
-    {
         let data_type = fields.data_type.to_data_type(alloc)?;
         let chain = self.chain_for(alloc, fields.subchunk_shape, &data_type)?;
         let grid = grid_over(alloc, fields.chunk_grid, fields.shape)?;
         let fill_value = fields.fill_value.to_fill_value(alloc, &data_type)?;
         check_names(fields.shape.len(), fields.dimension_names)?;
         let stated = stated_fill(alloc, &data_type, &fill_value)?;
-        Ok(Chosen {
-            data_type,
-            chain,
-            grid,
-            fill_value,
-            stated,
+        Ok(ArrayMetadataV3 {
+            shape: Vec::from_slice(alloc, fields.shape)?,
+            data_type: data_type.metadata(alloc)?,
+            chunk_grid: grid.metadata(alloc)?,
+            chunk_key_encoding: self.chunk_key_encoding.metadata(alloc)?,
+            fill_value: stated,
+            codecs: chain.create_metadatas(alloc)?,
+            attributes: copied(&self.attributes)?,
+            storage_transformers: Vec::new(alloc),
+            dimension_names: copied_dimension_names(alloc, fields.dimension_names)?,
+            additional_fields: copied_fields(&self.additional_fields)?,
         })
     }
 
@@ -217,63 +157,34 @@ impl ArrayBuilder {
     fn chain_for(
         &self,
         alloc: Global,
-        subchunk_shape: Option<&[u64]>,
+        subchunk_shape: &Option<ArrayShape>,
         data_type: &DataType,
     ) -> Result<CodecChain, ArrayCreateError>
         ensures made { IfOk result (λ chain. chain_chosen
-            (option_map (λ shape. shape.now) subchunk_shape.entry)
+            (option_map (λ shape. shape.items) subchunk_shape.now)
             (codecs_chosen (builder_view self.now) (kind data_type.now)) ≡ Ok (chain_data chain)) }
         ensures refused { IfErr result (λ e. RefusesCreation (chain_chosen
-            (option_map (λ shape. shape.now) subchunk_shape.entry)
+            (option_map (λ shape. shape.items) subchunk_shape.now)
             (codecs_chosen (builder_view self.now) (kind data_type.now))) (create_refusal_of e)) }
     {
-        let front = copied_codecs(alloc, &self.array_to_array_codecs)?;
-        let last = codec_for(alloc, &self.array_to_bytes_codec, data_type)?;
-        let Some(shape) = subchunk_shape else {
-            return Ok(CodecChain::new(front, last, BytesToBytesCodecs));
-        };
-        let sizes = subchunk_sizes(alloc, shape)?;
-        let chain = cut_chain(alloc, sizes, front, last, data_type)?;
-        Ok(chain)
+        let codecs = self.codecs_for(alloc, data_type)?;
+        match subchunk_shape {
+            Some(shape) => Ok(cut_chain(alloc, subchunk_sizes(alloc, shape)?, codecs)?),
+            None => Ok(codecs),
+        }
     }
 
-    /// Returns the metadata of what was chosen, and of the other parts.
-    fn document(
-        &self,
-        alloc: Global,
-        fields: &Fields<'_>,
-        chosen: Chosen,
-    ) -> Result<ArrayMetadataV3, AllocError>
-        requires over { array_extents_of chosen.grid ≡ (found_fields fields.now).shape }
-        requires named { names_said (length (found_fields fields.now).shape)
-            (found_fields fields.now).dimension_names ≡ Ok tt }
-        requires read { fill_said (kind chosen.data_type) (fill_data chosen.stated)
-            ≡ Some chosen.fill_value }
-        ensures written { IfOk result (λ m. document_view m ≡ document_with (builder_view self.now)
-            (found_fields fields.now) (chosen_view chosen)) }
-        ensures says { IfOk result (λ m. creation_v3 (document_view m) ≡ parts_of_fields
-            (builder_view self.now) (found_fields fields.now) (chosen_view chosen)) }
+    /// Returns the codecs that are set, with the default one of the data type if none makes bytes.
+    fn codecs_for(&self, alloc: Global, data_type: &DataType) -> Result<CodecChain, AllocError>
+        ensures { IfOk result (λ chain. chain_data chain
+            ≡ codecs_chosen (builder_view self.now) (kind data_type.now)) }
     {
-        let shape = Vec::from_slice(alloc, fields.shape)?;
-        let data_type = chosen.data_type.metadata(alloc)?;
-        let chunk_grid = chosen.grid.metadata(alloc)?;
-        let chunk_key_encoding = self.chunk_key_encoding.metadata(alloc)?;
-        let codecs = chosen.chain.create_metadatas(alloc)?;
-        let attributes = copied(&self.attributes)?;
-        let dimension_names = copied_dimension_names(alloc, fields.dimension_names)?;
-        let additional_fields = copied_fields(&self.additional_fields)?;
-        Ok(ArrayMetadataV3 {
-            shape,
-            data_type,
-            chunk_grid,
-            chunk_key_encoding,
-            fill_value: chosen.stated,
-            codecs,
-            attributes,
-            storage_transformers: Vec::new(alloc),
-            dimension_names,
-            additional_fields,
-        })
+        let front = copied_codecs(alloc, &self.array_to_array_codecs)?;
+        let last = match &self.array_to_bytes_codec {
+            Some(codec) => codec.try_clone(alloc)?,
+            None => default_array_to_bytes_codec(alloc, data_type)?,
+        };
+        Ok(CodecChain::new(front, last, BytesToBytesCodecs))
     }
 }
 
@@ -288,25 +199,6 @@ fn found<T>(field: &Result<T, AllocError>) -> Result<&T, ArrayCreateError>
     }
 }
 
-fn names_in(names: &Option<Vec<DimensionName>>) -> Option<&[DimensionName]>
-    ensures { option_map (λ n. map name_view n.now) result
-        ≡ option_map (λ n. map name_view n.items) names.now }
-{
-    match names {
-        Some(names) => Some(names.as_slice()),
-        None => None,
-    }
-}
-
-fn shape_in(shape: &Option<Vec<u64>>) -> Option<&[u64]>
-    ensures { option_map (λ s. s.now) result ≡ option_map (λ s. s.items) shape.now }
-{
-    match shape {
-        Some(shape) => Some(shape.as_slice()),
-        None => None,
-    }
-}
-
 fn check_path(alloc: Global, path: &str) -> Result<(), ArrayCreateError>
     ensures made { OnOk result (path_said path.now ≡ Ok tt) }
     ensures refused { IfErr result
@@ -314,21 +206,6 @@ fn check_path(alloc: Global, path: &str) -> Result<(), ArrayCreateError>
 {
     drop(NodePath::new(alloc, path)?);
     Ok(())
-}
-
-/// Returns the codec that is set, or the default one of the data type.
-fn codec_for(
-    alloc: Global,
-    codec: &Option<ArrayToBytesCodec>,
-    data_type: &DataType,
-) -> Result<ArrayToBytesCodec, AllocError>
-    ensures { IfOk result (λ c. bytes_codec_data c ≡ codec_chosen
-        (option_map bytes_codec_data codec.now) (kind data_type.now)) }
-{
-    if let Some(codec) = codec {
-        return codec.try_clone(alloc);
-    }
-    default_array_to_bytes_codec(alloc, data_type)
 }
 
 /// Returns the sizes of subchunks of this shape.
@@ -353,26 +230,14 @@ fn subchunk_sizes(alloc: Global, shape: &[u64]) -> Result<ChunkShape, ArrayCreat
 fn cut_chain(
     alloc: Global,
     subchunk_shape: ChunkShape,
-    array_to_array: Vec<ArrayToArrayCodec>,
-    array_to_bytes: ArrayToBytesCodec,
-    data_type: &DataType,
+    codecs: CodecChain,
 ) -> Result<CodecChain, AllocError>
     ensures { IfOk result (λ chain. chain_data chain
-        ≡ cut_into (sizes_of subchunk_shape.items) (record {
-          array_to_array = map array_codec_data array_to_array.items;
-          array_to_bytes = bytes_codec_data array_to_bytes;
-        })) }
+        ≡ cut_into (sizes_of subchunk_shape.items) (chain_data codecs)) }
 {
-    let mut builder = ShardingCodecBuilder::new(alloc, subchunk_shape, data_type)?;
-    builder
-        .array_to_array_codecs(array_to_array)
-        .array_to_bytes_codec(array_to_bytes);
-    let codec = Box::new(alloc, builder.build(alloc)?)?;
-    Ok(CodecChain::new(
-        Vec::new(alloc),
-        ArrayToBytesCodec::Sharding(codec),
-        BytesToBytesCodecs,
-    ))
+    let codec = ShardingCodec::new(subchunk_shape, ShardingIndexLocation::End, codecs);
+    let codec = ArrayToBytesCodec::Sharding(Box::new(alloc, codec)?);
+    Ok(CodecChain::new(Vec::new(alloc), codec, BytesToBytesCodecs))
 }
 
 /// Returns the grid over an array of this shape.
@@ -388,28 +253,7 @@ fn grid_over(
         (grid_chosen (grid_given given.now) shape.now)) (create_refusal_of e)) }
 {
     let metadata = given.to_metadata(alloc)?;
-    match ChunkGrid::from_metadata(alloc, &metadata, shape) {
-        Ok(grid) => Ok(grid),
-        Err(PluginCreateError::OutOfMemory) => Err(ArrayCreateError::OutOfMemory),
-        Err(error) => Err(ArrayCreateError::ChunkGridCreateError(error)),
-    }
-}
-
-/// Checks that there are as many names as dimensions, if there are names.
-fn check_names(dimensions: usize, names: Option<&[DimensionName]>) -> Result<(), ArrayCreateError>
-    ensures made { OnOk result
-        (names_said dimensions (option_map (λ n. map name_view n.now) names.entry) ≡ Ok tt) }
-    ensures refused { IfErr result (λ e. RefusesCreation
-        (names_said dimensions (option_map (λ n. map name_view n.now) names.entry))
-        (create_refusal_of e)) }
-{
-    let Some(names) = names else {
-        return Ok(());
-    };
-    if names.len() == dimensions {
-        return Ok(());
-    }
-    Err(ArrayCreateError::InvalidDimensionNames(names.len(), dimensions))
+    grid_from(alloc, &metadata, shape)
 }
 
 /// Returns the metadata of the fill value, if its bytes are a value of the data type.
@@ -426,29 +270,11 @@ fn stated_fill(
         (fill_stated (kind data_type.now) fill_value.now) (create_refusal_of e)) }
 {
     if !fill_value.is_value_of(data_type) {
-        return Err(invalid_fill(alloc, data_type, fill_value));
+        return Err(ArrayCreateError::InvalidFillValue {
+            data_type_name: data_type.name_v3(alloc)?,
+            fill_value: fill_value.try_clone(alloc)?,
+        });
     }
     written_fill_value_is_read(data_type, fill_value);
-    match data_type.metadata_fill_value(alloc, fill_value) {
-        Ok(metadata) => Ok(metadata),
-        Err(DataTypeFillValueError::OutOfMemory) => Err(ArrayCreateError::OutOfMemory),
-        Err(DataTypeFillValueError::Invalid) => unreachable!(),
-    }
-}
-
-/// Makes the refusal of these bytes as a fill value of the data type.
-fn invalid_fill(alloc: Global, data_type: &DataType, fill_value: &FillValue) -> ArrayCreateError
-    ensures { RefusesCreation (said_or {A = Unit {0}} (refusal.fill_value
-        (kind_name (kind data_type.now)) fill_value.now) None) (create_refusal_of result) }
-{
-    let Ok(data_type_name) = data_type.name_v3(alloc) else {
-        return ArrayCreateError::OutOfMemory;
-    };
-    let Ok(fill_value) = fill_value.try_clone(alloc) else {
-        return ArrayCreateError::OutOfMemory;
-    };
-    ArrayCreateError::InvalidFillValue {
-        data_type_name,
-        fill_value,
-    }
+    Ok(fill_metadata(alloc, data_type, fill_value)?)
 }

@@ -124,16 +124,13 @@ impl ArrayBuilder {
     }
 
     /// Sets the codecs that make an array of an array, the first one first.
-    pub fn array_to_array_codecs(
-        &mut self,
-        array_to_array_codecs: Vec<ArrayToArrayCodec>,
-    ) -> &mut Self
+    pub fn array_to_array_codecs(&mut self, codecs: Vec<ArrayToArrayCodec>) -> &mut Self
         ensures same_loan { result.ghost_name ≡ self.entry.ghost_name }
         ensures set { builder_view result.now ≡ record (builder_view self.old) {
-          array_to_array = map array_codec_data array_to_array_codecs.items;
+          array_to_array = map array_codec_data codecs.items;
         } }
     {
-        self.array_to_array_codecs = array_to_array_codecs;
+        self.array_to_array_codecs = codecs;
         self
     }
 
@@ -149,11 +146,10 @@ impl ArrayBuilder {
     }
 
     /// Sets the codecs that make bytes of bytes: there is none.
-    pub fn bytes_to_bytes_codecs(&mut self, bytes_to_bytes_codecs: BytesToBytesCodecs) -> &mut Self
+    pub fn bytes_to_bytes_codecs(&mut self, _codecs: BytesToBytesCodecs) -> &mut Self
         ensures same_loan { result.ghost_name ≡ self.entry.ghost_name }
         ensures kept { builder_view result.now ≡ builder_view self.old }
     {
-        self.bytes_to_bytes_codecs = bytes_to_bytes_codecs;
         self
     }
 
@@ -181,16 +177,13 @@ impl ArrayBuilder {
     }
 
     /// Sets the options of single codecs, which the array is built with.
-    pub fn codec_specific_options(
-        &mut self,
-        codec_specific_options: CodecSpecificOptions,
-    ) -> &mut Self
+    pub fn codec_specific_options(&mut self, options: CodecSpecificOptions) -> &mut Self
         ensures same_loan { result.ghost_name ≡ self.entry.ghost_name }
         ensures set { builder_view result.now ≡ record (builder_view self.old) {
-          codec_specific_options = codec_specific_options;
+          codec_specific_options = options;
         } }
     {
-        self.codec_specific_options = codec_specific_options;
+        self.codec_specific_options = options;
         self
     }
 
@@ -250,14 +243,10 @@ impl ArrayBuilder {
     }
 
     /// Sets the storage transformers: there is none.
-    pub fn storage_transformers(
-        &mut self,
-        storage_transformers: StorageTransformerChain,
-    ) -> &mut Self
+    pub fn storage_transformers(&mut self, _transformers: StorageTransformerChain) -> &mut Self
         ensures same_loan { result.ghost_name ≡ self.entry.ghost_name }
         ensures kept { builder_view result.now ≡ builder_view self.old }
     {
-        self.storage_transformers = storage_transformers;
         self
     }
 }

@@ -228,10 +228,10 @@ impl<T: Number> ElementOwned for T {
     fn options_from_array_bytes(
         alloc: Global,
         data_type: &DataType,
-        array_bytes: ArrayBytes<'_>,
+        array_bytes: &ArrayBytes<'_>,
     ) -> Result<Vec<Option<T>>, ElementError> {
         check_served(is_option_of::<T>(data_type))?;
-        number_options(alloc, data_type, &array_bytes)
+        number_options(alloc, data_type, array_bytes)
     }
 }
 

@@ -135,6 +135,6 @@ impl<T: ElementOwned> ElementOwned for Option<T> {
         data_type: &DataType,
         array_bytes: ArrayBytes<'_>,
     ) -> Result<Vec<Option<T>>, ElementError> {
-        T::options_from_array_bytes(alloc, data_type, array_bytes)
+        T::options_from_array_bytes(alloc, data_type, &array_bytes)
     }
 }

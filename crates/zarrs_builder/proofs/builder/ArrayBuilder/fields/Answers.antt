@@ -10,5 +10,5 @@ use Rattle.zarrs_builder.proofs.builder.ArrayBuilder.fields.Goals as goal
 
 pub returns-clause-made : goal.returns-clause-made
 returns-clause-made c =
-    rw (c.as_slice.ensures.value, c.names_in.ensures, c.shape_in.ensures)
-    (all_found (builder_view c.args.self.now) _ (found_ok c.args.self.now.shape (λ v. v.items) c.in_ok-shape.shape.now c.in_ok-shape.ensures.made) _ (found_ok c.args.self.now.chunk_grid grid_given c.in_ok-chunk_grid.chunk_grid.now c.in_ok-chunk_grid.ensures.made) _ (found_ok c.args.self.now.data_type type_given c.in_ok-data_type.data_type.now c.in_ok-data_type.ensures.made) _ (found_ok c.args.self.now.fill_value fill_given c.in_ok-fill_value.fill_value.now c.in_ok-fill_value.ensures.made) _ (found_ok c.args.self.now.dimension_names (option_map (λ names. map name_view names.items)) c.in_ok-dimension_names.dimension_names.now c.in_ok-dimension_names.ensures.made) _ (found_ok c.args.self.now.subchunk_shape (option_map (λ v. v.items)) c.in_ok-subchunk_shape.subchunk_shape.now c.in_ok-subchunk_shape.ensures.made))
+    rw (c.as_slice.ensures.value)
+    (all_found (builder_view c.args.self.now) _ (found_ok c.args.self.now.shape (λ v. v.items) c.in_ok-found.field-0.now c.in_ok-found.ensures.made) _ (found_ok c.args.self.now.chunk_grid grid_given c.in_ok-found-2.field-0.now c.in_ok-found-2.ensures.made) _ (found_ok c.args.self.now.data_type type_given c.in_ok-found-3.field-0.now c.in_ok-found-3.ensures.made) _ (found_ok c.args.self.now.fill_value fill_given c.in_ok-found-4.field-0.now c.in_ok-found-4.ensures.made) _ (found_ok c.args.self.now.dimension_names (option_map (λ names. map name_view names.items)) c.in_ok-found-5.field-0.now c.in_ok-found-5.ensures.made) _ (found_ok c.args.self.now.subchunk_shape (option_map (λ v. v.items)) c.in_ok-found-6.field-0.now c.in_ok-found-6.ensures.made))

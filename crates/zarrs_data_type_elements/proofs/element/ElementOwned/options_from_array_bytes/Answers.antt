@@ -13,7 +13,7 @@ returns-then-not-validate-clause-refused g c = λ served.
     let k = kind c.args.data_type.now in
     let held = c.in-Optional.optional in
     let other : HasCells k (optional (mask_of held) (inner_data held)) (length (mask_of held)) → IsTrue c.validate.result =
-    λ has. c.validate.ensures.1 (subst (λ n. HasCells k (data_of c.args.array_bytes) (length n)) (sym c.mask-mask.ensures.mask) (subst (λ d. HasCells k (data_of d) (length (mask_of held))) (sym c.in-Optional.is) has)) in
+    λ has. c.validate.ensures.1 (subst (λ n. HasCells k (data_of c.args.array_bytes.now) (length n)) (sym c.mask-mask.ensures.mask) (subst (λ d. HasCells k (data_of d) (length (mask_of held))) (sym c.in-Optional.is) has)) in
     ap (λ d. cells k (data_of d)) c.in-Optional.is
     ∙ values-unread k (mask_of held) (inner_data held) (λ has. let yes = other has in cc)
 
@@ -23,9 +23,9 @@ returns-clause-cells g c =
     let u = kind c.in-Some.inner.now in
     let held = c.in-Optional.optional in
     let inner : inner_of k ≡ Some u = sym c.optional_inner.ensures ∙ ap (option_map (λ i. kind i.now)) c.in-Some.is in
-    let valid : HasCells k (data_of c.args.array_bytes) (length c.mask-mask.result.now) = c.validate.ensures.0 c.if-not-validate.false in
+    let valid : HasCells k (data_of c.args.array_bytes.now) (length c.mask-mask.result.now) = c.validate.ensures.0 c.if-not-validate.false in
     let has : HasCells k (optional (mask_of held) (inner_data held)) (length (mask_of held)) =
-    subst (λ d. HasCells k (data_of d) (length (mask_of held))) c.in-Optional.is (subst (λ n. HasCells k (data_of c.args.array_bytes) (length n)) c.mask-mask.ensures.mask valid) in
+    subst (λ d. HasCells k (data_of d) (length (mask_of held))) c.in-Optional.is (subst (λ n. HasCells k (data_of c.args.array_bytes.now) (length n)) c.mask-mask.ensures.mask valid) in
     let spread : map (option_cell g.Self.Element.cell) c.in_ok-spread_values.field-0.items ≡ spread_cells (mask_of held) (map g.Self.Element.cell c.in_ok-values.values.items) =
     c.in_ok-spread_values.ensures ∙ ap (λ m. spread_cells m (map g.Self.Element.cell c.in_ok-values.values.items)) c.mask-mask.ensures.mask in
     ap (λ d. cells k (data_of d)) c.in-Optional.is

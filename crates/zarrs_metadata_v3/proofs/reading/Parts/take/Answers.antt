@@ -5,7 +5,7 @@ use Rattle.zarrs_metadata_v3.proofs.reading.Parts.take.Goals as goal
 
 pub returns : goal.returns
 returns c =
-    let ms = members_view c.args.members.entries in
+    let ms = members_view c.args.members.now.entries in
     let m1 = members_view c.take_member.new.members.entries in
     let at_zarr_format = take_next [] (codes "zarr_format") ms ms m1 (option_map view c.take_member.result) refl (besides-nothing ms) c.take_member.ensures.found c.take_member.ensures.left in
     let n1 = codes "zarr_format" ∷ [] in
@@ -39,16 +39,18 @@ returns c =
     let m11 = members_view c.take_member-11.new.members.entries in
     let at_dimension_names = take_next n10 (codes "dimension_names") ms m10 m11 (option_map view c.take_member-11.result) refl at_storage_transformers.1 c.take_member-11.ensures.found c.take_member-11.ensures.left in
     record {
-      zarr_format = at_zarr_format.0;
-      node_type = at_node_type.0;
-      shape = at_shape.0;
-      data_type = at_data_type.0;
-      chunk_grid = at_chunk_grid.0;
-      chunk_key_encoding = at_chunk_key_encoding.0;
-      fill_value = at_fill_value.0;
-      codecs = at_codecs.0;
-      attributes = at_attributes.0;
-      storage_transformers = at_storage_transformers.0;
-      dimension_names = at_dimension_names.0;
-      others = at_dimension_names.1;
+      taken = record {
+        zarr_format = at_zarr_format.0;
+        node_type = at_node_type.0;
+        shape = at_shape.0;
+        data_type = at_data_type.0;
+        chunk_grid = at_chunk_grid.0;
+        chunk_key_encoding = at_chunk_key_encoding.0;
+        fill_value = at_fill_value.0;
+        codecs = at_codecs.0;
+        attributes = at_attributes.0;
+        storage_transformers = at_storage_transformers.0;
+        dimension_names = at_dimension_names.0;
+      };
+      left = at_dimension_names.1;
     }
