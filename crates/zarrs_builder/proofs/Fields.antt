@@ -13,9 +13,6 @@ use Rattle.zarrs_codec_array.specs.Configurations.{ArrayCodecData}
 use Rattle.zarrs_codec_chain.specs.declared.options.CodecSpecificOptions.{CodecSpecificOptions}
 use Rattle.zarrs_codec.specs.Configurations.{BytesCodecData}
 use Rattle.zarrs_metadata_v3.specs.Fields.{FieldData}
-use Rattle.zarrs_options.specs.Refusals.{CreateRefusal, said_or}
-use Rattle.zarrs_options.specs.declared.error.ArrayCreateError.{ArrayCreateError}
-use Rattle.zarrs_creation.specs.Making.{MakesPart}
 use Rattle.zarrs_builder.specs.Given.{FillData}
 use Rattle.zarrs_builder.specs.Builders.{BuilderData}
 
@@ -30,11 +27,6 @@ of_ok (Err e) f b is = tt
 -- a field that found memory
 pub found_ok : {A B E : Type 0} (r : Result A E) (f : A → B) (a : A) → r ≡ Ok a → option_map f (result_ok r) ≡ Some (f a)
 found_ok r f a is = rw is refl
-
--- a value that was made of metadata that says one
-pub said_ok : {T : Type 0} (r : Result T ArrayCreateError) (refusal : CreateRefusal) (said : Option T) → MakesPart refusal said (λ x. x) r → IfOk r (λ x. said_or refusal said ≡ Ok x)
-said_ok (Ok x) refusal said h = rw h.made refl
-said_ok (Err e) refusal said h = tt
 
 -- one more pair of two lists
 pub zip_more : {A B : Type 0} (R : A → B → Type 0) (xs : List A) (ys : List B) (i : ℕ) (x : A) (y : B) → i < length xs → x ≡ get_or xs i x → AllZip R (take i xs) ys → R x y → AllZip R (take (i + 1) xs) (ys ++ y ∷ [])
