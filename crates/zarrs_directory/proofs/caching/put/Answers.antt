@@ -4,7 +4,7 @@ use Rattle.std.specs.Prelude.{Some}
 use Rattle.std.specs.FinMap as map
 use Rattle.zarrs_storage.specs.Memory.{values_of}
 use Rattle.zarrs_storage.proofs.MemoryLemmas.{inserted, put_back, get_stored}
-use Rattle.zarrs_directory.proofs.store.put.Goals as goal
+use Rattle.zarrs_directory.proofs.caching.put.Goals as goal
 
 pub returns-in_ok-put_present-in-Some-clause-ok : goal.returns-in_ok-put_present-in-Some-clause-ok
 returns-in_ok-put_present-in-Some-clause-ok g c =
