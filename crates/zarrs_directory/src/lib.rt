@@ -2,17 +2,22 @@
 //!
 //! `DirectoryStore` is a store over what was read of a directory. Its map is what was read and what was written since;
 //! the keys that may be asked are those that were read, so no call can take a file that nobody read for an absent one. What
-//! is written goes to its file at once. `files_below` lists what lies below a directory.
+//! is written goes to its file at once. `LentDirectory` lends its directory and what is held of it, so that a caller knows that
+//! the directory stays. `files_below` lists what lies below a directory.
 #![tactic(auto)]
 
+mod caching;
 mod counts;
 mod files;
 mod held;
+mod lending;
 mod names;
 mod store;
 mod walk;
 
+pub use caching::Cache;
 pub use files::Directory;
+pub use lending::LentDirectory;
 pub use names::{is_path, joined};
 pub use store::DirectoryStore;
 pub use walk::{Found, files_below};

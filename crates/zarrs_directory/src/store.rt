@@ -1,93 +1,26 @@
 //! `DirectoryStore`: a store over what was read of a directory.
-ghost use Rattle.std.specs.Prelude.{◌≡◌, ◌⊎◌, ◌+◌, ◌<◌, ◌≤◌, ℕ, List, length, take, drop, true, false, None};
+ghost use Rattle.std.specs.Prelude.{◌≡◌, ◌⊎◌, ℕ, List, true, false};
 ghost use Rattle.std.specs.Prelude.{IfErr, IfOk, IfSome, OnOk, OnErr, IsOk, IsErr, IsErrOf};
 ghost use Rattle.std.specs.Option.{option_copied};
 ghost use Rattle.std.specs.FinMap as map;
 ghost use Rattle.zarrs_storage.specs.Store.{Accepts, AcceptsPartial, Refuses, RefusesPartial};
 ghost use Rattle.zarrs_storage.specs.Store.{LendsValue, last_call, with_part};
-ghost use Rattle.zarrs_storage.specs.Memory.{values_of};
 ghost use Rattle.zarrs_directory.specs.Directory.{directory_of, directory_state, root_of, was_read};
 ghost use Rattle.zarrs_directory.specs.Directory.{Forgets, IsNew, ReadsKey, Stays};
 ghost use Rattle.zarrs_directory.specs.Directory.{RefusesFile, RefusesWriting};
 
-use crate::counts::WritingCalls;
+use crate::caching::Cache;
 use crate::files::Directory;
-use crate::held::{hold, insert_value, remove_value};
 use std::alloc::{AllocError, Global};
-use std::collections::{BTreeMap, BTreeSet};
 use std::rt::Files;
 use zarrs_storage::{Bytes, ReadableStorageTraits, StorageError, StoreKey, WritableStorageTraits};
 
-/// What was read of a directory, and what was written to it since. The keys that were read may be asked, and no other; what
-/// is written goes to its file at once.
+/// A directory, and what was read of it and written to it. The keys that were read may be asked, and no other; what is
+/// written goes to its file at once. `LentDirectory` lends the parts.
 #[derive(Drop)]
 pub struct DirectoryStore<'r, R> {
-    directory: Directory<'r, R>,
-    values: BTreeMap<StoreKey, Bytes>,
-    read: BTreeSet<StoreKey>,
-    counts: WritingCalls,
-}
-
-/// Puts a value in the place of a present one, and into its file.
-fn put_present<R: Files + AllocGlobal>(
-    present: &mut Bytes,
-    directory: &Directory<'_, R>,
-    alloc: Global,
-    key: &StoreKey,
-    value: Bytes,
-) -> Result<(), StorageError>
-    ensures ok { OnOk result (present.new ≡ value) }
-    ensures kept { OnErr result (present.new ≡ present.old) }
-    ensures reason { IfErr result (RefusesFile key.now) }
-{
-    directory.replace(alloc, key, value.as_slice())?;
-    *present = value;
-    Ok(())
-}
-
-/// Puts a value where none is, and into its file. The entry is taken first: that memory lacks is told before the file is
-/// written.
-#[tactic(auto, using(crate::proofs::StoreLemmas::taken_back))]
-fn put_absent<R: Files + AllocGlobal>(
-    values: &mut BTreeMap<StoreKey, Bytes>,
-    directory: &Directory<'_, R>,
-    alloc: Global,
-    key: &StoreKey,
-    value: Bytes,
-) -> Result<(), StorageError>
-    requires { map.get (values_of values.old) key.now ≡ None }
-    ensures ok { OnOk result (values_of values.new
-        ≡ map.insert (values_of values.old) key.now value) }
-    ensures kept { OnErr result (values_of values.new ≡ values_of values.old) }
-    ensures reason { IfErr result (RefusesFile key.now) }
-{
-    insert_value(values, key, &value)?;
-    match directory.replace(alloc, key, value.as_slice()) {
-        Ok(()) => Ok(()),
-        Err(error) => {
-            remove_value(values, key);
-            Err(error)
-        }
-    }
-}
-
-/// Puts a value at the key of the map and into its file.
-fn put<R: Files + AllocGlobal>(
-    values: &mut BTreeMap<StoreKey, Bytes>,
-    directory: &Directory<'_, R>,
-    alloc: Global,
-    key: &StoreKey,
-    value: Bytes,
-) -> Result<(), StorageError>
-    ensures ok { OnOk result (values_of values.new
-        ≡ map.insert (values_of values.old) key.now value) }
-    ensures kept { OnErr result (values_of values.new ≡ values_of values.old) }
-    ensures reason { IfErr result (RefusesFile key.now) }
-{
-    match values.get_mut(key) {
-        Some(present) => Ok(put_present(present, directory, alloc, key, value)?),
-        None => put_absent(values, directory, alloc, key, value),
-    }
+    pub directory: Directory<'r, R>,
+    pub cache: Cache,
 }
 
 impl<'r, R: Files + AllocGlobal> DirectoryStore<'r, R> {
@@ -98,12 +31,9 @@ impl<'r, R: Files + AllocGlobal> DirectoryStore<'r, R> {
     pub fn new(rt: &'r R, root: &str) -> Result<DirectoryStore<'r, R>, AllocError>
         ensures { IfOk result (IsNew root.now) }
     {
-        let alloc = rt.alloc();
         Ok(DirectoryStore {
             directory: Directory::new(rt, root)?,
-            values: BTreeMap::new(alloc),
-            read: BTreeSet::new(alloc),
-            counts: WritingCalls::new(),
+            cache: Cache::new(rt.alloc()),
         })
     }
 
@@ -118,7 +48,7 @@ impl<'r, R: Files + AllocGlobal> DirectoryStore<'r, R> {
     pub fn has_read(&self, key: &StoreKey) -> bool
         ensures { result ≡ was_read self.now key.now }
     {
-        self.read.contains(key)
+        self.cache.has_read(key)
     }
 
     /// Reads the file of the key, if it was not read, so that the key may be asked. Other keys stay as they are.
@@ -140,7 +70,7 @@ impl<'r, R: Files + AllocGlobal> DirectoryStore<'r, R> {
             Some(bytes) => Some(Bytes::from_vec(bytes)?),
             None => None,
         };
-        hold(&mut self.values, &mut self.read, key, value)?;
+        self.cache.hold(key, value)?;
         Ok(())
     }
 
@@ -150,8 +80,7 @@ impl<'r, R: Files + AllocGlobal> DirectoryStore<'r, R> {
         ensures directory { directory_of self.new ≡ directory_of self.old }
         ensures forgets { Forgets self.old self.new }
     {
-        self.values.clear();
-        self.read.clear();
+        self.cache.forget();
     }
 }
 
@@ -159,10 +88,7 @@ impl<'r, R: Files + AllocGlobal> ReadableStorageTraits for DirectoryStore<'r, R>
     ghost state = { directory_state };
 
     fn get(&self, _alloc: Global, key: &StoreKey) -> Result<Option<Bytes>, StorageError> {
-        match self.values.get(key) {
-            Some(value) => Ok(Some(value.clone()?)),
-            None => Ok(None),
-        }
+        Ok(self.cache.get(key)?)
     }
 
     fn get_partial(
@@ -172,14 +98,11 @@ impl<'r, R: Files + AllocGlobal> ReadableStorageTraits for DirectoryStore<'r, R>
         offset: u64,
         count: u64,
     ) -> Result<Option<Bytes>, StorageError> {
-        match self.values.get(key) {
-            Some(value) => Ok(Some(part_of(value, offset, count)?)),
-            None => Ok(None),
-        }
+        self.cache.get_partial(key, offset, count)
     }
 
     fn size_key(&self, _alloc: Global, key: &StoreKey) -> Result<Option<u64>, StorageError> {
-        Ok(self.values.get(key).map(|value| value.len() as u64))
+        Ok(self.cache.size_key(key))
     }
 
     fn lend_value(&self, key: &StoreKey) -> Option<&[u8]>
@@ -187,26 +110,8 @@ impl<'r, R: Files + AllocGlobal> ReadableStorageTraits for DirectoryStore<'r, R>
         ensures lends { IfSome result (λ value. LendsValue (directory_state self.now) key.now value.now) }
         ensures value { option_copied result ≡ map.get (directory_state self.now).values key.now }
     {
-        match self.values.get(key) {
-            Some(value) => Some(value.as_slice()),
-            None => None,
-        }
+        self.cache.lend_value(key)
     }
-}
-
-/// Returns the range of the value, shared with it.
-fn part_of(value: &Bytes, offset: u64, count: u64) -> Result<Bytes, StorageError>
-    ensures ok { IfOk result (λ part. part ≡ take count (drop offset value.now)) }
-    ensures passing { length value.now < offset + count
-        → IsErrOf result StorageError.InvalidByteRange }
-    ensures refused { IfErr result (λ e. (e ≡ StorageError.OutOfMemory)
-        ⊎ ((e ≡ StorageError.InvalidByteRange) × (length value.now < offset + count))) }
-{
-    let size = value.len() as u64;
-    if offset > size || count > size - offset {
-        return Err(StorageError::InvalidByteRange);
-    }
-    Ok(value.slice(offset as usize..(offset + count) as usize)?)
 }
 
 impl<'r, R: Files + AllocGlobal> WritableStorageTraits for DirectoryStore<'r, R> {
@@ -219,12 +124,7 @@ impl<'r, R: Files + AllocGlobal> WritableStorageTraits for DirectoryStore<'r, R>
         ensures directory { directory_of self.new ≡ directory_of self.old }
         ensures reason { IfErr result (RefusesWriting (directory_state self.old) key.now) }
     {
-        if self.counts.are_exhausted() {
-            return Err(StorageError::Exhausted);
-        }
-        let outcome = put(&mut self.values, &self.directory, alloc, key, value);
-        self.counts.count(outcome.is_err());
-        outcome
+        self.cache.set(&self.directory, alloc, key, value)
     }
 
     fn erase(&mut self, alloc: Global, key: &StoreKey) -> Result<(), StorageError>
@@ -236,20 +136,7 @@ impl<'r, R: Files + AllocGlobal> WritableStorageTraits for DirectoryStore<'r, R>
         ensures directory { directory_of self.new ≡ directory_of self.old }
         ensures reason { IfErr result (RefusesWriting (directory_state self.old) key.now) }
     {
-        if self.counts.are_exhausted() {
-            return Err(StorageError::Exhausted);
-        }
-        match self.directory.remove(alloc, key) {
-            Ok(()) => {
-                remove_value(&mut self.values, key);
-                self.counts.count(false);
-                Ok(())
-            }
-            Err(error) => {
-                self.counts.count(true);
-                Err(error)
-            }
-        }
+        self.cache.erase(&self.directory, alloc, key)
     }
 
     /// Writes no part: `supports_set_partial` is false.
@@ -272,11 +159,7 @@ impl<'r, R: Files + AllocGlobal> WritableStorageTraits for DirectoryStore<'r, R>
             ⊎ ((e ≡ StorageError.Exhausted)
             × ((directory_state self.old).calls ≡ last_call))) }
     {
-        if self.counts.are_exhausted() {
-            return Err(StorageError::Exhausted);
-        }
-        self.counts.count_part(true);
-        Err(StorageError::ReadOnly)
+        self.cache.refuse_partial()
     }
 
     fn supports_set_partial(&self) -> bool {
