@@ -27,7 +27,7 @@ copy() {
     tar -C "$top" --exclude='./crates/*/out' -cf - ./crates ./crates.txt ./HANDLES | tar -C "$room/copy" -xf -
     cat "$tool/crates.txt.part" >> "$room/copy/crates.txt"
     local crate path to
-    for crate in zarr_regions zarr_commands zarr; do
+    for crate in zarr_commands zarr; do
         while IFS= read -r path; do
             to=$room/copy/crates/$crate/${path%.txt}
             mkdir -p "$(dirname "$to")"

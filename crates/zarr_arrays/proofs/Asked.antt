@@ -15,10 +15,10 @@ use Rattle.zarrs_storage.specs.Store.{StoreState}
 use Rattle.zarrs_engine_calls.specs.Layout.{Layout}
 use Rattle.zarrs_engine_calls.specs.ChunkBoxes.{CoversBox, chunks_met}
 use Rattle.zarrs_engine_calls.specs.Reach.{MayAskChunk, MayAskChunks, MayAskParts, MayReadParts}
-use Rattle.zarrs_directory.specs.Directory.{directory_state, was_read, ReadsKey}
+use Rattle.zarrs_directory.specs.Directory.{directory_state, was_read, Forgets, ReadsKey}
 use Rattle.zarrs_data_type.specs.ArrayData.{ArrayData}
 use Rattle.zarrs_engine_calls.specs.Reads.{ReadsRegion}
-use Rattle.zarr_arrays.specs.Reading.{HasRead, HasReadPart, KeepsRead, ReadsAtMost, ReadsNoOthers, HasReadOnly}
+use Rattle.zarr_arrays.specs.Reading.{HasRead, HasReadPart, KeepsRead, KeepsStore, ReadsAtMost, ReadsNoOthers, HasReadOnly}
 use Rattle.zarrs_chunk_grid.specs.Grids.{box_at}
 use Rattle.zarrs_directory.specs.declared.store.DirectoryStore.{DirectoryStore}
 
@@ -64,6 +64,23 @@ read_parts layout region chunks state any each index among = record {
 
 -- ---- what a step of a loop reads
 
+module _ {R : Type 0} where
+  pub kept_itself : (store : DirectoryStore R) → KeepsStore store store
+  kept_itself store = record { directory = refl; counts = record { calls = refl; failures = refl; parts = refl } }
+
+  pub kept_forgotten : (old new : DirectoryStore R) → Forgets old new → KeepsStore old new
+  kept_forgotten old new forgets = record { directory = forgets.directory; counts = forgets.cache.counts }
+
+  pub kept_on : (old between new : DirectoryStore R) → KeepsStore old between → KeepsStore between new → KeepsStore old new
+  kept_on old between new first then = record {
+    directory = then.directory ∙ first.directory;
+    counts = record {
+      calls = then.counts.calls ∙ first.counts.calls;
+      failures = then.counts.failures ∙ first.counts.failures;
+      parts = then.counts.parts ∙ first.counts.parts;
+    };
+  }
+
 module _ {R : Type 0} (layout : Layout) where
   -- a chunk whose key was read
   pub chunk_asked : (store : DirectoryStore R) (index key : List ℕ) → key ≡ layout.key index → was_read store key ≡ true → HasRead layout store index
@@ -75,12 +92,12 @@ module _ {R : Type 0} (layout : Layout) where
 
   pub keeps_read : (old new : DirectoryStore R) (key : List ℕ) → ReadsKey old new key → KeepsRead layout old new
   keeps_read old new key reads = record {
-    chunks = λ index before. record { key = λ long. reads.keys.kept (layout.key index) (before.key long); places = λ long value place at below. refl };
-    directory = reads.directory;
+    chunks = λ index before. record { key = λ long. reads.notes.keys.kept (layout.key index) (before.key long); places = λ long value place at below. refl };
+    kept = record { directory = reads.directory; counts = reads.notes.counts };
   }
 
   pub keeps_same : (store : DirectoryStore R) → KeepsRead layout store store
-  keeps_same store = record { chunks = λ index before. before; directory = refl }
+  keeps_same store = record { chunks = λ index before. before; kept = kept_itself store }
 
   -- a chunk that the region covers
   pub is_no_part : (store : DirectoryStore R) (region : Box) (index : List ℕ) → CoversBox region (box_at layout.grid index) → HasReadPart layout region store index
@@ -101,7 +118,7 @@ module _ {R : Type 0} (layout : Layout) where
     keys = λ other read.
         elim (same_or_apart other key) [
           | inl same ↦ inr (same ∙ is_key)
-          | inr apart ↦ inl (sym (reads.keys.others other apart) ∙ read)
+          | inr apart ↦ inl (sym (reads.notes.keys.others other apart) ∙ read)
         ];
   }
 
@@ -122,9 +139,10 @@ module _ {R : Type 0} (layout : Layout) where
   }
 
   -- nothing was read before
-  pub read_only : (chunks : List (List ℕ)) (old new : DirectoryStore R) → ((key : List ℕ) → was_read old key ≡ false) → ReadsNoOthers layout chunks old new
-      → HasReadOnly layout chunks new
-  read_only chunks old new none others = record {
+  pub read_only : (chunks : List (List ℕ)) (old new : DirectoryStore R) → ((key : List ℕ) → was_read old key ≡ false)
+      → MayAskChunks layout chunks (directory_state new) → ReadsNoOthers layout chunks old new → HasReadOnly layout chunks new
+  read_only chunks old new none each others = record {
+    each = each;
     keys = λ key read.
         elim (others.keys key read) [
           | inl before ↦ absurd (false≢true (sym (none key) ∙ before))

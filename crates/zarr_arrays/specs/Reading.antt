@@ -7,8 +7,13 @@ use Rattle.zarrs_engine_calls.specs.ChunkBoxes.{chunks_met}
 use Rattle.zarrs_engine_calls.specs.Reach.{MayAskChunk}
 use Rattle.zarrs_engine_calls.specs.Reads.{ReadsRegion}
 use Rattle.zarrs_engine_calls.specs.StateRefusals.{IsPart}
-use Rattle.zarrs_directory.specs.Directory.{directory_of, directory_state, was_read}
+use Rattle.zarrs_directory.specs.Directory.{directory_of, directory_state, was_read, KeepsCounts}
 use Rattle.zarrs_directory.specs.declared.store.DirectoryStore.{DirectoryStore}
+
+-- it is of the same directory, and no writing call was made
+pub record KeepsStore {R : Type 0} (old new : DirectoryStore R) : Type 0 where
+  pub directory : directory_of new ≡ directory_of old
+  pub counts : KeepsCounts old.cache new.cache
 
 -- the chunk may be asked
 abbrev pub HasRead : {R : Type 0} → Layout → DirectoryStore R → List ℕ → Type 0
@@ -21,7 +26,7 @@ HasReadPart layout region store index = IsPart layout region index → HasRead l
 -- more was read of the directory: each chunk that might be asked may be asked
 pub record KeepsRead {R : Type 0} (layout : Layout) (old new : DirectoryStore R) : Type 0 where
   pub chunks : (index : List ℕ) → HasRead layout old index → HasRead layout new index
-  pub directory : directory_of new ≡ directory_of old
+  pub kept : KeepsStore old new
 
 -- the data is the cells of the region, as the chunks say them that were read of the directory
 abbrev pub ReadsCells : {R : Type 0} → Layout → Box → DirectoryStore R → ArrayData → Type 0
@@ -37,6 +42,7 @@ pub record ReadsAtMost {R : Type 0} (layout : Layout) (old new : DirectoryStore 
 pub record ReadsNoOthers {R : Type 0} (layout : Layout) (chunks : List (List ℕ)) (old new : DirectoryStore R) : Type 0 where
   pub keys : (key : List ℕ) → was_read new key ≡ true → (was_read old key ≡ true) ⊎ ((index : List ℕ) × Contains chunks index × (key ≡ layout.key index))
 
--- each key that may be asked is that of one of these chunks
+-- these chunks were read, and no other: each of them may be asked, and each key that may be asked is that of one of them
 pub record HasReadOnly {R : Type 0} (layout : Layout) (chunks : List (List ℕ)) (store : DirectoryStore R) : Type 0 where
+  pub each : (index : List ℕ) → Contains chunks index → HasRead layout store index
   pub keys : (key : List ℕ) → was_read store key ≡ true → (index : List ℕ) × Contains chunks index × (key ≡ layout.key index)

@@ -1,5 +1,5 @@
 //! Arrays in directories: opened, and their calls.
-ghost use Rattle.std.specs.Prelude.{◌≡◌, IfOk, IfSome, IsErr, OnOk};
+ghost use Rattle.std.specs.Prelude.{◌≡◌, length, IfOk, IfSome, IsErr, OnOk};
 ghost use Rattle.zarrs_data_type.specs.ArrayData.{data_of};
 ghost use Rattle.zarrs_subset.specs.Regions.{LiesInShape, box_at_origin, box_of};
 ghost use Rattle.zarrs_codec.specs.Options.{stores_empty_chunks};
@@ -9,6 +9,7 @@ ghost use Rattle.zarrs_directory.specs.Directory.{directory_of};
 ghost use Rattle.zarr_cells.specs.Forms.{rows_of};
 ghost use Rattle.zarrs_engine_calls.specs.ChunkBoxes.{chunks_met};
 ghost use Rattle.zarr_arrays.specs.Reading.{HasReadOnly, ReadsCells};
+ghost use Rattle.zarr_arrays.specs.Storing.{CompactsRead, StoresCells, UpgradesStore};
 
 use crate::calls::{compact_chunk, retrieve_cells, store_cells, upgrade};
 use crate::reading::{outside, read_chunk, read_chunks, read_parts};
@@ -199,7 +200,9 @@ impl<'r> Opened<'r> {
         region: &ArraySubset,
         cells: ArrayBytes<'_>,
     ) -> Result<(), Refusal>
-        ensures { self.new.array ≡ self.old.array }
+        ensures stored { OnOk result (StoresCells (layout_of_array self.old.array)
+            (box_of region.now) (data_of cells.entry) self.old.store self.new.store) }
+        ensures array { self.new.array ≡ self.old.array }
     {
         self.store.forget();
         read_parts(&self.array, &mut self.store, alloc, region)?;
@@ -212,21 +215,32 @@ impl<'r> Opened<'r> {
     ///
     /// # Errors
     /// E7 for a file that cannot be read or written; those of `Array::compact_chunk`.
-    pub fn compact_chunk(&mut self, alloc: Global, indices: &[u64]) -> Result<bool, Refusal> {
+    pub fn compact_chunk(&mut self, alloc: Global, indices: &[u64]) -> Result<bool, Refusal>
+        ensures compacted { length indices.now ≡ (layout_of_array self.old.array).grid.dimensions
+            → IfOk result (λ answer. CompactsRead (layout_of_array self.old.array) indices.now
+            answer self.old.store self.new.store) }
+        ensures array { self.new.array ≡ self.old.array }
+    {
         self.store.forget();
         if indices.len() != self.array.dimensionality() {
             return Ok(false);
         }
         read_chunk(&self.array, &mut self.store, alloc, indices)?;
-        compact_chunk(&self.array, alloc, &mut self.store, indices)
+        let answer = compact_chunk(&self.array, alloc, &mut self.store, indices)?;
+        Ok(answer)
     }
 
     /// Makes the V2 document of the array a V3 one.
     ///
     /// # Errors
     /// A document that is not seen as it is; E7 for a file that cannot be written; E9.
-    pub fn upgrade(&mut self, alloc: Global) -> Result<(), Refusal> {
+    pub fn upgrade(&mut self, alloc: Global) -> Result<(), Refusal>
+        ensures upgraded { OnOk result
+            (UpgradesStore self.old.array self.old.store self.new.store) }
+        ensures array { self.new.array ≡ self.old.array }
+    {
         self.need_clear(alloc)?;
-        upgrade(&self.array, alloc, &mut self.store)
+        upgrade(&self.array, alloc, &mut self.store)?;
+        Ok(())
     }
 }

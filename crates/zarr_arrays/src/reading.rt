@@ -5,8 +5,9 @@ ghost use Rattle.zarrs_chunk_grid.specs.Grids.{met};
 ghost use Rattle.zarrs_engine_calls.specs.ChunkBoxes.{CoversBox, chunks_met};
 ghost use Rattle.zarrs_engine_calls.specs.Reach.{MayAskChunks, MayAskParts};
 ghost use Rattle.zarrs.specs.Arrays.{layout_of_array};
-ghost use Rattle.zarrs_directory.specs.Directory.{directory_of, directory_state};
-ghost use Rattle.zarr_arrays.specs.Reading.{HasRead, HasReadPart, KeepsRead, ReadsAtMost, ReadsNoOthers};
+ghost use Rattle.zarrs_directory.specs.Directory.{directory_state};
+ghost use Rattle.zarr_arrays.specs.Reading.{HasRead, HasReadPart, KeepsRead, KeepsStore};
+ghost use Rattle.zarr_arrays.specs.Reading.{ReadsAtMost, ReadsNoOthers};
 
 use crate::opened::Store;
 use crate::refusals::Refusal;
@@ -70,7 +71,7 @@ pub(crate) fn read_chunks(
     ensures ask { OnOk result (MayAskChunks (layout_of_array array.now)
         (chunks_met (layout_of_array array.now).grid (box_of region.now))
         (directory_state store.new)) }
-    ensures directory { OnOk result (directory_of store.new ≡ directory_of store.old) }
+    ensures kept { OnOk result (KeepsStore store.old store.new) }
     ensures no_others { OnOk result (ReadsNoOthers (layout_of_array array.now)
         (chunks_met (layout_of_array array.now).grid (box_of region.now)) store.old store.new) }
 {
@@ -122,7 +123,7 @@ pub(crate) fn read_parts(
     ensures ask { OnOk result (MayAskParts (layout_of_array array.now) (box_of region.now)
         (chunks_met (layout_of_array array.now).grid (box_of region.now))
         (directory_state store.new)) }
-    ensures directory { OnOk result (directory_of store.new ≡ directory_of store.old) }
+    ensures kept { OnOk result (KeepsStore store.old store.new) }
     ensures no_others { OnOk result (ReadsNoOthers (layout_of_array array.now)
         (chunks_met (layout_of_array array.now).grid (box_of region.now)) store.old store.new) }
 {

@@ -1,11 +1,11 @@
-use Rattle.std.proofs.Common.{refl, sym, subst, ap, ◌∙◌}
+use Rattle.std.proofs.Common.{sym, subst, ap, ◌∙◌}
 use Rattle.std.specs.Prelude.{Some}
 use Rattle.zarrs_subset.specs.Regions.{box_of, positions}
 use Rattle.zarrs_engine_calls.specs.ChunkBoxes.{chunks_met}
 use Rattle.zarrs_subset.specs.Walks.{positions_left}
 use Rattle.zarrs.specs.Arrays.{layout_of_array}
 use Rattle.zarr_arrays.specs.Reading.{HasRead, ReadsAtMost}
-use Rattle.zarr_arrays.proofs.Asked.{Each, each_none, each_more, each_all, each_next, more_read, none_read, yielded, ended}
+use Rattle.zarr_arrays.proofs.Asked.{Each, each_none, each_more, each_all, each_next, kept_itself, kept_on, more_read, none_read, yielded, ended}
 use Rattle.zarr_arrays.proofs.reading.read_chunks.Goals as goal
 
 pub loop-indices-init : goal.loop-indices-init
@@ -15,7 +15,7 @@ loop-indices-init c =
       each =
           subst (λ it. Each (HasRead (layout_of_array c.args.array.now) c.args.store.now) all (positions_left it)) (sym c.into_iter-indices-iterator.ensures.into_iter_gives)
           (subst (Each (HasRead (layout_of_array c.args.array.now) c.args.store.now) all) (sym (c.indices-indices-items.ensures ∙ ap positions c.in_ok-chunks.ensures)) (each_none (HasRead (layout_of_array c.args.array.now) c.args.store.now) all));
-      directory = refl;
+      kept = kept_itself c.args.store.now;
       no_others = none_read (layout_of_array c.args.array.now) all c.args.store.now;
     }
 
@@ -27,7 +27,7 @@ loop-indices-preserved c = record {
       (yielded c.loop-indices.indices-iterator c.next.new.self c.next.result c.in_ok-indices.indices c.next.ensures.steps (c.in-Some.is ∙ ap Some c.in_ok-indices.was))
       (subst (HasRead (layout_of_array c.args.array.now) c.read_chunk.new.store) c.deref.ensures c.in_ok-read_chunk.ensures.read)
       c.in_ok-read_chunk.ensures.kept.chunks c.loop-indices.invariant.each;
-  directory = c.in_ok-read_chunk.ensures.kept.directory ∙ c.loop-indices.invariant.directory;
+  kept = kept_on c.args.store.now c.loop-indices.store c.read_chunk.new.store c.loop-indices.invariant.kept c.in_ok-read_chunk.ensures.kept.kept;
   no_others =
       more_read (layout_of_array c.args.array.now) (chunks_met (layout_of_array c.args.array.now).grid (box_of c.args.region.now)) c.args.store.now c.loop-indices.store
       c.read_chunk.new.store c.in_ok-indices.indices.items
@@ -47,7 +47,7 @@ loop-indices-preserved-in_ok-read_chunk c = record {
       (yielded c.loop-indices.indices-iterator c.next.new.self c.next.result c.in_ok-indices.indices c.next.ensures.steps (c.in-Some.is ∙ ap Some c.in_ok-indices.was))
       (subst (HasRead (layout_of_array c.args.array.now) c.read_chunk.new.store) c.deref.ensures c.in_ok-read_chunk.ensures.read)
       c.in_ok-read_chunk.ensures.kept.chunks c.loop-indices.invariant.each;
-  directory = c.in_ok-read_chunk.ensures.kept.directory ∙ c.loop-indices.invariant.directory;
+  kept = kept_on c.args.store.now c.loop-indices.store c.read_chunk.new.store c.loop-indices.invariant.kept c.in_ok-read_chunk.ensures.kept.kept;
   no_others =
       more_read (layout_of_array c.args.array.now) (chunks_met (layout_of_array c.args.array.now).grid (box_of c.args.region.now)) c.args.store.now c.loop-indices.store
       c.read_chunk.new.store c.in_ok-indices.indices.items

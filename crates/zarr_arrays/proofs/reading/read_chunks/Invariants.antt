@@ -1,16 +1,14 @@
-use Rattle.std.proofs.Common.{◌≡◌}
 use Rattle.zarrs_subset.specs.Regions.{box_of}
 use Rattle.zarrs_engine_calls.specs.ChunkBoxes.{chunks_met}
 use Rattle.zarrs_subset.specs.Walks.{positions_left}
 use Rattle.zarrs.specs.Arrays.{layout_of_array}
-use Rattle.zarrs_directory.specs.Directory.{directory_of}
-use Rattle.zarr_arrays.specs.Reading.{HasRead, ReadsNoOthers}
+use Rattle.zarr_arrays.specs.Reading.{HasRead, KeepsStore, ReadsNoOthers}
 use Rattle.zarr_arrays.proofs.Asked.{Each}
 use Rattle.zarr_arrays.proofs.reading.read_chunks.Given as goal
 
 abbrev pub invariant-loop-indices : goal.invariant-loop-indices
 invariant-loop-indices l = record {
   each : Each (HasRead (layout_of_array l.array) l.store) (chunks_met (layout_of_array l.array).grid (box_of l.region)) (positions_left l.indices-iterator);
-  directory : directory_of l.store ≡ directory_of l.initial.store;
+  kept : KeepsStore l.initial.store l.store;
   no_others : ReadsNoOthers (layout_of_array l.array) (chunks_met (layout_of_array l.array).grid (box_of l.region)) l.initial.store l.store;
 }
