@@ -167,7 +167,7 @@ impl<'a> ArrayBytes<'a> {
 
 /// Makes bytes owned. Those that are lent are copied, all at once.
 #[inline(always)]
-fn owned_bytes(alloc: Global, bytes: CowSlice<'_, u8>) -> Result<Vec<u8>, AllocError>
+pub fn owned_bytes(alloc: Global, bytes: CowSlice<'_, u8>) -> Result<Vec<u8>, AllocError>
     ensures { IfOk result (λ owned. owned.items ≡ cow_slice_items bytes.entry) }
 {
     match bytes {
