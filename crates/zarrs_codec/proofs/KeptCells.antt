@@ -1,9 +1,10 @@
 -- Subchunks whose bytes are their cells as they stand in memory.
-use Rattle.std.proofs.Common.{◌≡◌, ℕ, Bool, true, false, List, [], ◌∷◌, Option, None, Some, IsSome, refl, sym, ap, subst, ◌∙◌}
-use Rattle.std.specs.Prelude.{not, option_and_then, option_map, unwrap_or, ◌&&◌, if◌then◌else◌}
+use Rattle.std.proofs.Common.{Result, Ok, Err, IfOk, ◌≡◌, ℕ, Bool, true, false, List, [], ◌∷◌, Option, None, Some, IsSome, length, refl, sym, ap, subst, ◌∙◌}
+use Rattle.std.specs.Prelude.{IsSomeAnd, not, option_and_then, option_map, unwrap_or, ◌&&◌, if◌then◌else◌}
 use Rattle.std.proofs.lemmas.Bool.{and_parts, false≢true}
 use Rattle.zarrs_data_type.specs.declared.data_type.DataType.{DataType}
-use Rattle.zarrs_data_type.specs.ArrayData.{fixed}
+use Rattle.zarrs_data_type_bytes.specs.declared.array_bytes.ArrayBytes.{ArrayBytes}
+use Rattle.zarrs_data_type.specs.ArrayData.{data_of, fixed}
 use Rattle.zarrs_data_type.specs.Cell.{Cell}
 use Rattle.zarrs_data_type.specs.Cells.{cells, HasCells}
 use Rattle.zarrs_data_type.specs.Kind.{Kind, kind}
@@ -20,10 +21,15 @@ use Rattle.zarrs_codec_shard.specs.declared.shard_index.ShardWriter.{ShardWriter
 use Rattle.zarrs_codec.specs.declared.chain.CodecChain.{CodecChain}
 use Rattle.zarrs_codec.specs.declared.codec.ArrayToBytesCodec.{ArrayToBytesCodec}
 use Rattle.zarrs_codec.specs.declared.codec.ArrayToBytesCodec as codec
+use Rattle.zarrs_codec_leaf.specs.declared.error.CodecError.{CodecError}
+use Rattle.zarrs_codec_leaf.specs.declared.error.CodecError.TheVariants as error
+use Rattle.zarrs_codec_chain.specs.Chain.{ChainMeaning}
+use Rattle.zarrs_codec_chain.specs.Refusals.{RefusesChunkDecoding}
 use Rattle.zarrs_codec.specs.ChainLaws.{same_cells}
 use Rattle.zarrs_codec.specs.Chains.{array_to_array_of, array_to_bytes_of, behind, chain_meaning, codec_meaning}
 use Rattle.zarrs_codec.specs.Chains.{codec_keeps_cells, keeps_cells, keeps_order, leaf_meaning, no_codec}
-use Rattle.zarrs_codec.specs.Shardings.{cells_of, subchunk_meaning, PushesCells, ReadsCells}
+use Rattle.zarrs_codec.specs.KeptCells.{WritesCells}
+use Rattle.zarrs_codec.specs.Shardings.{cells_of, subchunk_meaning, PushesCells, ReadsCells, RefusesCopy}
 
 -- no cell's bytes are put in reverse
 none_reversed : (e : Option Endianness) (k : Kind) → keeps_order e ≡ true → reverses e k ≡ false
@@ -49,6 +55,20 @@ module _ (t : DataType) (b : List ℕ) (cs : List Cell) (is : cells (kind t) (fi
   chain_kept chain empty f sub keeps fits =
       let both = and_parts (no_codec (array_to_array_of chain)) (codec_keeps_cells (array_to_bytes_of chain)) keeps in
       codec_kept (array_to_array_of chain) (array_to_bytes_of chain) empty f sub both.0 both.1 fits
+
+  codec_written : (codecs : List ArrayToArrayCodec) (c : ArrayToBytesCodec) (empty : Bool) (f : Cell) (sub : List ℕ) → no_codec codecs ≡ true → codec_keeps_cells c ≡ true
+      → (leaf_meaning c).takes (kind t) ≡ true → (behind codecs (codec_meaning c)).encoded empty (kind t) f sub cs ≡ Some b
+  codec_written [] (codec.Bytes bytes) empty f sub none keeps taken = bytes_kept (endian_of bytes) keeps taken
+  codec_written [] c empty f sub none keeps taken = cc
+  codec_written (x ∷ codecs) c empty f sub none keeps taken = cc
+
+pub writes_kept : (chain : CodecChain) (t : DataType) → keeps_cells chain ≡ true → (leaf_meaning (array_to_bytes_of chain)).takes (kind t) ≡ true
+    → WritesCells (chain_meaning chain) (kind t)
+writes_kept chain t keeps taken =
+    let both = and_parts (no_codec (array_to_array_of chain)) (codec_keeps_cells (array_to_bytes_of chain)) keeps in
+    record {
+      bytes = λ empty f s b cs is. codec_written t b cs is (array_to_array_of chain) (array_to_bytes_of chain) empty f s both.0 both.1 taken;
+    }
 
 kept_part : (left : Bool) (encoded : Option (List ℕ)) (b : List ℕ) → encoded ≡ Some b → (if left then Some None else option_map Some encoded) ≡ Some (if left then None else Some b)
 kept_part true encoded b is = refl
@@ -96,3 +116,24 @@ reads_kept chain t f sub keeps taken =
       same = λ b has. codec_same t f sub b (array_to_array_of chain) (array_to_bytes_of chain) both.0 both.1 taken has;
       none = λ b fails. codec_none t f sub b (array_to_array_of chain) (array_to_bytes_of chain) both.0 both.1 taken fails;
     }
+
+some_counted : (n : ℕ) (o : Option (List Cell)) → IsSomeAnd o (λ cs. length cs ≡ n) → IsSome o
+some_counted n None has = absurd has
+some_counted n (Some cs) has = refl
+
+-- a chunk whose cells are lent
+module _ (m : ChainMeaning) (k : Kind) (f : Cell) (s b : List ℕ) (reads : ReadsCells m k f s) where
+  pub lent_decoded : (r : Result (ArrayBytes) CodecError) → IfOk r (λ made. data_of made ≡ fixed b) → IfOk r (λ _. HasCells k (fixed b) (position_count s))
+      → IfOk r (λ made. cells k (data_of made) ≡ m.decoded k f s b)
+  lent_decoded (Ok made) lent has = ap (cells k) lent ∙ reads.same b has
+  lent_decoded (Err e) lent has = lent
+
+  pub lent_some : (r : Result (ArrayBytes) CodecError) → IfOk r (λ made. data_of made ≡ fixed b) → IfOk r (λ _. HasCells k (fixed b) (position_count s))
+      → IfOk r (λ made. IsSome (cells k (data_of made)))
+  lent_some (Ok made) lent has = subst (λ d. IsSome (cells k d)) (sym lent) (some_counted (position_count s) (cells k (fixed b)) has)
+  lent_some (Err e) lent has = lent
+
+  pub lent_refused : (e : CodecError) → RefusesCopy k s b e → RefusesChunkDecoding m k f s b e
+  lent_refused (error.DoesNotFit why) fails = reads.none b fails
+  lent_refused error.SizeOverflow fails = absurd fails
+  lent_refused error.OutOfMemory fails = fails

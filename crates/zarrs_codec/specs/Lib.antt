@@ -1,6 +1,7 @@
 pub mod ChainLaws
 pub mod Chains
 pub mod Configurations
+pub mod KeptCells
 pub mod Metadata
 pub mod PartialShardings
 pub mod ShardChunks

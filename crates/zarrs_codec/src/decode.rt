@@ -14,6 +14,7 @@ ghost use Rattle.zarrs_codec_shard.specs.SubchunkData.{chunk_shape, subchunk_sha
 ghost use Rattle.zarrs_codec_shard.specs.Subchunks.{subchunk_count};
 ghost use Rattle.zarrs_codec.specs.Chains.{behind, chain_meaning, inner_chain_of, sharding_meaning};
 ghost use Rattle.zarrs_codec.specs.Shardings.{decoded_parts, PutsPart, RefusesCells};
+ghost use Rattle.zarrs_codec.specs.KeptCells.{WritesCells};
 ghost use Rattle.zarrs_codec.specs.Shardings.{CopiesParts, ReadsCells, RefusesCopies, RefusesCopy};
 ghost use Rattle.zarrs_codec_chain.specs.Chunks.{RefusesToDecode, decoded_of};
 ghost use Rattle.zarrs_codec_chain.specs.Refusals.{RefusesChunkDecoding};
@@ -45,6 +46,9 @@ impl CodecChain {
         ensures refused { IfErr result (RefusesToDecode (chain_meaning self.now) chunk.now
             encoded.now) }
     {
+        if self.reads_cells(&chunk.cell_type.data_type) {
+            return lent_cells(encoded, chunk);
+        }
         match &self.array_to_bytes {
             ArrayToBytesCodec::Sharding(codec) => {
                 let codecs = &self.array_to_array;
@@ -55,9 +59,10 @@ impl CodecChain {
     }
 
     /// Whether the bytes of a chunk of this type are its cells as they stand in memory.
-    fn reads_cells(&self, data_type: &DataType) -> bool
+    pub(crate) fn reads_cells(&self, data_type: &DataType) -> bool
         ensures reads { OnTrue result ((fill : Cell) (shape : List ℕ) → ReadsCells
             (chain_meaning self.now) (kind data_type.now) fill shape) }
+        ensures writes { OnTrue result (WritesCells (chain_meaning self.now) (kind data_type.now)) }
         ensures sized { OnTrue result (IsSome (element_size (kind data_type.now))) }
     {
         self.keeps_cells() && self.array_to_bytes.takes(data_type)
@@ -204,6 +209,24 @@ impl ShardingCodec {
         let part = self.inner_codecs().decode_chunk(alloc, encoded, &inner)?;
         Ok(subchunks.put(alloc, chunk, &part, &cell_type.data_type, number)?)
     }
+}
+
+/// The cells of a chunk whose bytes are its cells as they stand in memory. They are lent.
+#[inline(always)]
+fn lent_cells<'a>(encoded: &'a [u8], chunk: &ChunkType<'_>) -> Result<ArrayBytes<'a>, CodecError>
+    requires { position_count (shape_of chunk.now) * cell_size (chunk_kind chunk.now) < 2 ^ 64 }
+    ensures lent { IfOk result (λ made. data_of made ≡ fixed encoded.now) }
+    ensures has_cells { IfOk result (λ _. HasCells (chunk_kind chunk.now) (fixed encoded.now)
+        (position_count (shape_of chunk.now))) }
+    ensures refused { IfErr result (RefusesCopy (chunk_kind chunk.now) (shape_of chunk.now)
+        encoded.now) }
+{
+    let data = ArrayBytes::from_flen(encoded);
+    let count = element_count(chunk.shape).unwrap();
+    if !data.validate(&chunk.cell_type.data_type, count) {
+        return Err(CodecError::DoesNotFit(Misfit::Bytes));
+    }
+    Ok(data)
 }
 
 /// Whether each subchunk is there.

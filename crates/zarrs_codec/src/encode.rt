@@ -1,8 +1,9 @@
 //! Chunks to bytes.
-ghost use Rattle.std.specs.Prelude.{◌≡◌, ◌<◌, true, Some, IfOk, IfErr, option_map};
+ghost use Rattle.std.specs.Prelude.{◌≡◌, ◌<◌, true, Some, IfOk, IfErr, IfSome, option_map};
 ghost use Rattle.zarrs_subset.specs.Boxes.{position_count};
 ghost use Rattle.zarrs_data_type.specs.CellTypes.{chunk_fill, chunk_kind, filling, kind_of, shape_of};
-ghost use Rattle.zarrs_data_type.specs.ArrayData.{data_of};
+ghost use Rattle.zarrs_data_type.specs.ArrayData.{data_of, fixed};
+ghost use Rattle.zarrs_data_type.specs.Kind.{kind};
 ghost use Rattle.zarrs_data_type.specs.Cells.{HasCells};
 ghost use Rattle.zarrs_codec_shard.specs.Sharded.{part_of, sharded_encoded};
 ghost use Rattle.zarrs_codec_shard.specs.SubchunkData.{chunk_shape, subchunk_shape};
@@ -10,6 +11,7 @@ ghost use Rattle.zarrs_codec_shard.specs.Subchunks.{subchunk_at, subchunk_count}
 ghost use Rattle.zarrs_codec_chain.specs.Chunks.{RefusesToEncode, encoding_as};
 ghost use Rattle.zarrs_codec.specs.Chains.{behind, chain_meaning, inner_chain_of, is_at_start};
 ghost use Rattle.zarrs_codec.specs.Chains.{keeps_cells, location_of, sharding_meaning};
+ghost use Rattle.zarrs_codec.specs.KeptCells.{WritesCells};
 ghost use Rattle.zarrs_codec.specs.Shardings.{cells_of, subchunk_meaning, PushesCells, RefusesPart, RefusesParts};
 ghost use Rattle.zarrs_codec_chain.specs.Options.{stores_empty_chunks};
 
@@ -21,7 +23,7 @@ use zarrs_codec_array::{ArrayToArrayCodec, encode_array, encoded_shape};
 use zarrs_codec_chain::CodecOptions;
 use zarrs_codec_leaf::{CodecError, Endianness, Misfit};
 use zarrs_codec_shard::{ShardWriter, Subchunks};
-use zarrs_data_type::{ArrayBytes, CellType, ChunkType};
+use zarrs_data_type::{ArrayBytes, CellType, ChunkType, DataType};
 
 impl CodecChain {
     /// Whether the bytes of a chunk are its cells as they stand in memory.
@@ -33,6 +35,19 @@ impl CodecChain {
                 self.array_to_array.is_empty() && !matches!(codec.endian(), Some(Endianness::Big))
             }
             _ => false,
+        }
+    }
+
+    /// The cells of a chunk in memory, if its bytes are these.
+    #[inline(always)]
+    fn kept_cells<'b>(&self, bytes: &'b ArrayBytes<'_>, data_type: &DataType) -> Option<&'b [u8]>
+        ensures same { IfSome result (λ cells. data_of bytes.now ≡ fixed cells.now) }
+        ensures writes { IfSome result (λ _. WritesCells (chain_meaning self.now)
+            (kind data_type.now)) }
+    {
+        match bytes {
+            ArrayBytes::Fixed(cells) if self.reads_cells(data_type) => Some(cells.as_slice()),
+            _ => None,
         }
     }
 
@@ -51,6 +66,9 @@ impl CodecChain {
         ensures refused { IfErr result (RefusesToEncode (chain_meaning self.now)
             (stores_empty_chunks options.now) chunk.now (data_of bytes.now)) }
     {
+        if let Some(cells) = self.kept_cells(bytes, &chunk.cell_type.data_type) {
+            return Ok(Vec::from_slice(alloc, cells)?);
+        }
         match &self.array_to_bytes {
             ArrayToBytesCodec::Sharding(codec) => {
                 let arrays = &self.array_to_array;

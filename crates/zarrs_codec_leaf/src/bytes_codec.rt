@@ -17,7 +17,7 @@ use crate::codec::LeafCodec;
 use crate::error::{CodecError, Misfit};
 use std::alloc::{AllocError, Global};
 use std::borrow::CowSlice;
-use zarrs_data_type::{ArrayBytes, DataType, Writing, written};
+use zarrs_data_type::{ArrayBytes, DataType, Writing, owned_bytes, written};
 
 /// The order of the bytes of a number.
 #[derive(Clone, Copy, Debug, Drop, PartialEq, Eq)]
@@ -90,7 +90,7 @@ impl BytesCodec {
         let Ok(bytes) = bytes.into_fixed() else {
             return Err(CodecError::DoesNotFit(Misfit::NoValue));
         };
-        Ok(bytes.into_owned(alloc)?)
+        Ok(owned_bytes(alloc, bytes)?)
     }
 
     /// The `count` cells of the bytes, which are given away. Bytes that are in the codec's order already are not copied.
@@ -202,7 +202,7 @@ impl LeafCodec for BytesCodec {
         match bytes {
             ArrayBytes::Fixed(bytes) => {
                 let ordered = self.ordered(alloc, bytes.as_slice(), data_type)?;
-                Ok(ordered.into_owned(alloc)?)
+                Ok(owned_bytes(alloc, ordered)?)
             }
             ArrayBytes::Variable(_) => Err(CodecError::DoesNotFit(Misfit::NoValue)),
             ArrayBytes::Optional(_) => Err(CodecError::DoesNotFit(Misfit::NoValue)),

@@ -20,7 +20,7 @@ pub use into_field::IntoField;
 pub use zarrs_data_type_bytes::{
     ArrayBytes, ArrayBytesOffsets, ArrayBytesOptional, ArrayBytesVariableLength,
     ExpectedFixedLengthBytesError, ExpectedOptionalBytesError, ExpectedVariableLengthBytesError,
-    VariableLengthBuilder, are_flags,
+    VariableLengthBuilder, are_flags, owned_bytes,
 };
 pub use zarrs_data_type_elements::{Element, ElementError, ElementOwned};
 pub use zarrs_data_type_kinds::{

@@ -149,7 +149,7 @@ impl<'a> ArrayBytes<'a> {
     {
         match self {
             ArrayBytes::Fixed(bytes) => {
-                Ok(ArrayBytes::Fixed(CowSlice::Owned(bytes.into_owned(alloc)?)))
+                Ok(ArrayBytes::Fixed(CowSlice::Owned(owned_bytes(alloc, bytes)?)))
             }
             ArrayBytes::Variable(strings) => Ok(ArrayBytes::Variable(strings.into_owned(alloc)?)),
             ArrayBytes::Optional(optional) => {
@@ -162,6 +162,17 @@ impl<'a> ArrayBytes<'a> {
                 }))
             }
         }
+    }
+}
+
+/// Makes bytes owned. Those that are lent are copied, all at once.
+#[inline(always)]
+pub fn owned_bytes(alloc: Global, bytes: CowSlice<'_, u8>) -> Result<Vec<u8>, AllocError>
+    ensures { IfOk result (λ owned. owned.items ≡ cow_slice_items bytes.entry) }
+{
+    match bytes {
+        CowSlice::Borrowed(lent) => Vec::from_slice(alloc, lent),
+        CowSlice::Owned(owned) => Ok(owned),
     }
 }
 

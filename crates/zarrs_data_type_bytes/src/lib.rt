@@ -22,7 +22,7 @@ mod string_boxes;
 mod texts;
 mod variable;
 
-pub use array_bytes::{ArrayBytes, ArrayBytesOptional};
+pub use array_bytes::{ArrayBytes, ArrayBytesOptional, owned_bytes};
 pub use boxes::bytes_with_part;
 pub use error::{
     ExpectedFixedLengthBytesError, ExpectedOptionalBytesError, ExpectedVariableLengthBytesError,

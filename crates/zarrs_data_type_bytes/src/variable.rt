@@ -7,6 +7,7 @@ ghost use Rattle.std.specs.List.{list_all};
 ghost use Rattle.std.specs.Str.{is_utf8};
 ghost use Rattle.zarrs_data_type_bytes.specs.Offsets.{AreCuts, byte_strings, joined, last_offset, offsets_of};
 
+use crate::array_bytes::owned_bytes;
 use crate::error::ExpectedVariableLengthBytesError;
 use crate::offsets::ArrayBytesOffsets;
 use crate::texts::{are_ascii, is_text};
@@ -128,7 +129,7 @@ impl<'a> ArrayBytesVariableLength<'a> {
         let ArrayBytesVariableLength { bytes, offsets } = self;
         let offsets = offsets.into_owned(alloc)?;
         Ok(ArrayBytesVariableLength {
-            bytes: CowSlice::Owned(bytes.into_owned(alloc)?),
+            bytes: CowSlice::Owned(owned_bytes(alloc, bytes)?),
             offsets,
         })
     }

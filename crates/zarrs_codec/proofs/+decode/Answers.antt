@@ -1,6 +1,6 @@
 use Rattle.zarrs_codec_chain.specs.Chunks.{RefusesToDecode}
 use Rattle.zarrs_codec.proofs.Cuts.{cut_decoding}
-use Rattle.zarrs_data_type.specs.CellTypes.{chunk_fill, chunk_kind, filling, kind_of}
+use Rattle.zarrs_data_type.specs.CellTypes.{chunk_fill, chunk_kind, filling, kind_of, shape_of}
 use Rattle.std.proofs.Common.{rules, arith, ◌≡◌, ◌∙◌, ◌<◌, ◌*◌, ◌≤◌, ◌^◌, true, false, List, map, length, get_or, Some, None, Option, sym, ap, subst}
 use Rattle.std.specs.Prelude.{is_some, slice_range, option_map, IsSome}
 use Rattle.std.specs.List.{list_all, All}
@@ -29,6 +29,7 @@ use Rattle.zarrs_codec_optional.specs.ShardingMetadata.{sizes_of}
 use Rattle.zarrs_codec.specs.ChainLaws.{chain-lawful, sharded-lawful}
 use Rattle.zarrs_codec.specs.Shardings.{decoded_parts, CopiesParts, HasFirstCells, ReadsCells, RefusesCells, RefusesCopies}
 use Rattle.zarrs_codec.proofs.CopiedParts.{some_first}
+use Rattle.zarrs_codec.proofs.KeptCells.{lent_decoded, lent_refused, lent_some}
 use Rattle.zarrs_codec.proofs.Behind.{count_behind, decoded-has_cells, held_behind, refused_behind}
 use Rattle.zarrs_codec.proofs.PartCells.{cells_all, cells_left, cells_more, cells_refused, cells_started, fill_refused, part_at, present_parts, puts_part, held_cells, is_read, IsRead}
 use Rattle.zarrs_codec.proofs.+decode.Goals as goal
@@ -320,6 +321,30 @@ sharding::ShardingCodec::decode_behind-decode_array-requires-clause-cells t c =
     let is : cells k d ≡ m.decoded k f inner b = subst (λ x. cells k d ≡ m.decoded k f x b) c.deref.ensures.value c.in_ok-array.ensures.cells in
     subst (λ x. HasCells k x (position_count s)) (sym c.in_ok-array-2.ensures)
     (held_behind a m (arrays-lawful c.args.codecs.now) k f s inner b shape law d is c.in_ok-array.ensures.some)
+
+-- ---- a chunk whose bytes are its cells
+
+pub chain::CodecChain::decode_chunk-returns-then-reads_cells-clause-cells :
+    goal.chain::CodecChain::decode_chunk-returns-then-reads_cells-clause-cells
+chain::CodecChain::decode_chunk-returns-then-reads_cells-clause-cells t c =
+    let chunk = c.args.chunk.now in
+    let reads = OnTrue_at c.if-reads_cells.true c.reads_cells.ensures.reads (chunk_fill chunk) (shape_of chunk) in
+    lent_decoded (chain_meaning c.args.self.now) (chunk_kind chunk) (chunk_fill chunk) (shape_of chunk) c.args.encoded.now reads c.lent_cells.result c.lent_cells.ensures.lent c.lent_cells.ensures.has_cells
+
+pub chain::CodecChain::decode_chunk-returns-then-reads_cells-clause-some :
+    goal.chain::CodecChain::decode_chunk-returns-then-reads_cells-clause-some
+chain::CodecChain::decode_chunk-returns-then-reads_cells-clause-some t c =
+    let chunk = c.args.chunk.now in
+    let reads = OnTrue_at c.if-reads_cells.true c.reads_cells.ensures.reads (chunk_fill chunk) (shape_of chunk) in
+    lent_some (chain_meaning c.args.self.now) (chunk_kind chunk) (chunk_fill chunk) (shape_of chunk) c.args.encoded.now reads c.lent_cells.result c.lent_cells.ensures.lent c.lent_cells.ensures.has_cells
+
+pub chain::CodecChain::decode_chunk-returns-then-reads_cells-clause-refused :
+    goal.chain::CodecChain::decode_chunk-returns-then-reads_cells-clause-refused
+chain::CodecChain::decode_chunk-returns-then-reads_cells-clause-refused t c =
+    let chunk = c.args.chunk.now in
+    let reads = OnTrue_at c.if-reads_cells.true c.reads_cells.ensures.reads (chunk_fill chunk) (shape_of chunk) in
+    IfErr-weaker c.lent_cells.result _ _
+    (lent_refused (chain_meaning c.args.self.now) (chunk_kind chunk) (chunk_fill chunk) (shape_of chunk) c.args.encoded.now reads) c.lent_cells.ensures.refused
 
 pub chain::CodecChain::decode_chunk-returns-in-Sharding-clause-refused :
     goal.chain::CodecChain::decode_chunk-returns-in-Sharding-clause-refused

@@ -18,7 +18,7 @@ use crate::error::{ElementError, check_served};
 use std::alloc::{AllocError, Global};
 use std::borrow::CowSlice;
 use std::mem;
-use zarrs_data_type_bytes::ArrayBytes;
+use zarrs_data_type_bytes::{ArrayBytes, owned_bytes};
 use zarrs_data_type_kinds::DataType;
 use zarrs_data_type_numbers::{NumberBytes, WholeNumber};
 
@@ -88,7 +88,7 @@ impl Number for u8 {
     }
 
     fn own_bytes(alloc: Global, bytes: CowSlice<'_, u8>) -> Result<Vec<u8>, AllocError> {
-        bytes.into_owned(alloc)
+        owned_bytes(alloc, bytes)
     }
 }
 

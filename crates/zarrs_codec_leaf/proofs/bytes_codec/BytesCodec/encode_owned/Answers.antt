@@ -15,7 +15,7 @@ returns-clause-encoded c =
     let e = endian_of c.args.self.now in
     let held = cow_slice_items c.in-Ok.bytes in
     let same : data_of c.args.bytes ≡ fixed held = c.in-Ok.ensures.bytes in
-    let kept : c.in_ok-into_owned.field-0.items ≡ held = search rules in
+    let kept : c.in_ok-owned_bytes.field-0.items ≡ held = search rules in
     let straight : reverses e k ≡ false = sym c.reverses.ensures ∙ c.if-reverses.false in
     ap (encoding_of (bytes_meaning_of e) k) same
     ∙ encoding_of-bytes e c.args.data_type.now held held (sym c.takes.ensures ∙ c.if-not-takes.false) (λ r. refl) (λ r. absurd (false≢true (sym straight ∙ r)))

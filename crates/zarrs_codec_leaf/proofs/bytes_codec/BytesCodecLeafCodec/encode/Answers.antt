@@ -21,12 +21,12 @@ returns-in-Optional-clause-refused c =
     ap (λ x. x && (is_some (endian_of c.args.self.now) || not (has_byte_order k)))
     (optional-unsized k c.in-Optional.field-0.mask (data_of c.in-Optional.field-0.data.value) (subst (λ x. IsSome (cells k (data_of x))) c.in-Optional.is c.requires))
 
-pub returns-in_ok-into_owned-in-Fixed-clause-encoded : goal.returns-in_ok-into_owned-in-Fixed-clause-encoded
-returns-in_ok-into_owned-in-Fixed-clause-encoded c =
+pub returns-in_ok-owned_bytes-in-Fixed-clause-encoded : goal.returns-in_ok-owned_bytes-in-Fixed-clause-encoded
+returns-in_ok-owned_bytes-in-Fixed-clause-encoded c =
     let k = kind c.args.data_type.now in
     let e = endian_of c.args.self.now in
     let ordered = c.in_ok-ordered-in-Fixed in
-    let owned = c.in_ok-into_owned-in-Fixed.field-0.items in
+    let owned = c.in_ok-owned_bytes-in-Fixed.field-0.items in
     let same : data_of c.args.bytes.now ≡ fixed c.as_slice.result.now = ap data_of c.in-Fixed.is ∙ ap fixed (sym c.as_slice.ensures.value) in
     let kept : owned ≡ cow_slice_items ordered.ordered = search rules in
     ap (encoding_of (bytes_meaning_of e) k) same

@@ -4,5 +4,4 @@ use Rattle.zarrs_data_type_elements.proofs.ElementCells.{singles}
 use Rattle.zarrs_data_type_elements.proofs.element.numbers.U8Number.own_bytes.Goals as goal
 
 pub returns : goal.returns
-returns c =
-    IfOk-weaker c.into_owned.result _ _ (λ made is. singles made.items ∙ is (λ x y same. same)) c.into_owned.ensures.items_if_clones_equal
+returns c = IfOk-weaker c.owned_bytes.result _ _ (λ made is. singles made.items ∙ is) c.owned_bytes.ensures
