@@ -1,11 +1,14 @@
 #!/bin/bash
 # build.sh [FOLDER]: makes FOLDER/zarr (tool/out), the program of these sources over the crates of this repository. Nothing is proved by it.
+# build.sh --check: proves that program and its commands, over what this folder's crates/*/out have of the crates below (`rt check`).
 # TOOL_ROOM: a folder outside the repository where it is built, and which then stays (a new one, removed at the end).
 # README.md says how it is built.
 set -euo pipefail
 tool=$(dirname "$(realpath "$0")")
 top=$(dirname "$tool")
-out=${1:-$tool/out}
+out=$tool/out
+is_check=
+case ${1:-} in --check) is_check=yes ;; ?*) out=$1 ;; esac
 kit=$(realpath "$(dirname "$(realpath "$(command -v rt)")")/..")
 if [ "${TOOL_ROOM:-}" ]; then
     mkdir -p "$TOOL_ROOM"
@@ -34,6 +37,16 @@ copy() {
             cp "$tool/$crate/$path" "${to/%.edit/.edit.md}"
         done < <(cd "$tool/$crate" && find . -name '*.txt' -type f -not -path './data/*')
     done
+}
+
+# The proofs of the program and its commands. What is proved of the crates below is lent by links, or copied to another disk.
+check() {
+    local it
+    for it in "$top"/crates/*/out; do
+        [ -d "$it" ] || continue
+        cp -al "$it" "$room/copy/crates/$(basename "$(dirname "$it")")/" 2> /dev/null || cp -a "$it" "$room/copy/crates/$(basename "$(dirname "$it")")/"
+    done
+    (cd "$room/copy/crates/zarr" && MIMALLOC_PURGE_DELAY=-1 rt check)
 }
 
 # Links to a folder's files, but for those that are named.
@@ -74,6 +87,7 @@ program() {
 }
 
 copy
+if [ "$is_check" ]; then check; exit; fi
 module
 program
 mkdir -p "$out"
