@@ -98,7 +98,7 @@ fn outcome(alloc: Global, script: &[u8]) -> (Vec<u8>, u8) {
 fn run_example<R: Files + Alloc<A = Global> + Print>(rt: &R, name: &str, status: u8) -> Result<()> {
     let alloc = rt.alloc();
     let script = fs::read(rt, format!(in alloc; "{name}.zarrs")?)?;
-    let expected = fs::read(rt, format!(in alloc; "{name}.out")?)?;
+    let expected = fs::read(rt, format!(in alloc; "{name}.zarrs.stdout")?)?;
     let (text, ended) = outcome(alloc, &script);
     if ended != status || text != expected {
         bail!("{name} ended with status {ended}, or wrote something else than its file");
