@@ -71,8 +71,9 @@ sharded_partly_too_large m k f s sub stored part = elim (stored_parts (subchunk_
 
 -- ---- reads of parts
 
--- whether something is too large that a read of this part of a shard decodes whole of the subchunk of this number, whose bytes
--- these are: the part meets the subchunk, and the inner chain decodes too much of it for the positions that they share
+-- whether something is too large that a read of this part of a shard decodes whole of the subchunk of this number,
+-- whose bytes these are. So it is if the part meets the subchunk, and the inner chain decodes too much of it for the
+-- positions that they share.
 abbrev pub reads_large_subchunk : ChainMeaning → Kind → Cell → (shape sub : List ℕ) → (part : Box) → (number : ℕ) → (encoded : List ℕ) → Bool
 reads_large_subchunk m k f s sub part number b =
     let own = subchunk_box s sub number in

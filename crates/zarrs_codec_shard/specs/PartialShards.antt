@@ -114,8 +114,9 @@ write_of count stored parts changes =
     else given_if (nat_lt (stored_end count stored + length (changed_text count stored changes)) (2 ^ 64))
     (Some (put (stored_end count stored) (changed_text count stored changes)))
 
--- what is done with the key of a chunk for the cells of a part: nothing if the chunk is not cut into subchunks that fit,
--- if the shard has no parts, if a subchunk that the part meets does not decode, or if a size is too large
+-- what is done with the key of a chunk for the cells of a part. It is nothing if the chunk is not cut into subchunks
+-- that fit, or if the shard has no parts. It is nothing too if a subchunk that the part meets does not decode, or if
+-- a size is too large.
 abbrev pub sharded_partly : SubchunkMeaning → (store_empty : Bool) (fill : Cell) (shape sub : List ℕ)
     → (stored : Option (List ℕ)) (part : Box) (given : List Cell) → Option PartialChange
 sharded_partly m store_empty fill shape sub stored part given =

@@ -190,8 +190,9 @@ DecodesOver layout region state =
     → value_at state (layout.key (index_at layout.grid position)) ≡ Some encoded
     → (given : List Cell) × (decoded_cells layout (box_at layout.grid (index_at layout.grid position)) encoded ≡ Some given)
 
--- A region's cells are those of its parts put together, if its chunks decode: a list of one cell for each position of the
--- region, which at each of them has the cell that the read of some part has there, is what a read of the region returns.
+-- A region's cells are those of its parts put together, if its chunks decode. Take a list of one cell for each
+-- position of the region, which at each of them has the cell that the read of some part has there. It is what a read
+-- of the region returns.
 abbrev pub PartsMakeTheRegion : Type 0
 PartsMakeTheRegion =
     (layout : Layout) → IsLawful layout → (keep : Bool) (call : Call) (region : Box) (got : ArrayData) (old new : ArrayState) (made : List Cell)

@@ -106,9 +106,9 @@ IsEncodedAs layout keep index state part held =
 abbrev pub RefusesKey : Layout → List ℕ → ℕ → StoreState → Type 0
 RefusesKey layout index failed new = (failed ≡ 0) × (new.refuses (layout.key index) ≡ true)
 
--- Why this part, seen from the chunk's origin, is not written by itself, in the store state at that moment: the key of its
--- chunk refuses to be read, or the part is encoded and the writing call failed (E7); the part is not encoded (E4, E8); out of
--- memory (E9).
+-- Why this part, seen from the chunk's origin, is not written by itself, in the store state at that moment. The key
+-- of its chunk refuses to be read, or the part is encoded and the writing call failed (E7). The part is not encoded
+-- (E4, E8), or out of memory (E9).
 abbrev pub RefusesPartly : Layout → Bool → List ℕ → Box → ArrayData → ℕ → StoreState → Refusal → Type 0
 RefusesPartly layout keep index part held failed new refusal.storage =
     RefusesKey layout index failed new ⊎ (IsEncodedAs layout keep index new part held × CallFails failed new)

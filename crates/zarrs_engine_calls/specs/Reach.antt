@@ -15,9 +15,9 @@ use Rattle.zarrs_engine_calls.specs.Content.{value_at}
 use Rattle.zarrs_engine_calls.specs.Cuts.{cut_chunks, keeps_some}
 use Rattle.zarrs_engine_calls.specs.StateRefusals.{IsPart}
 
--- What is refused of where a call is to read or write: a region that chunks do not cover; a range whose first or last index
--- has no chunk; a part of an index without a chunk, or one that passes its chunk; a shape that the grid does not take. Such a
--- call names no chunk.
+-- What is refused of where a call is to read or write. It is a region that chunks do not cover, or a range whose
+-- first or last index has no chunk. It is a part of an index without a chunk, or one that passes its chunk, or a
+-- shape that the grid does not take. Such a call names no chunk.
 abbrev pub location_refusal : Layout → List ℕ → Call → Option Refusal
 location_refusal layout shape (call.StoreChunkSubset index part held) =
     option_or (chunk_refusal layout index.items) (part_refusal layout index.items (box_of part))
@@ -30,10 +30,9 @@ location_refusal layout shape (call.RetrieveArraySubset region) = region_refusal
 location_refusal layout shape (call.Resize wanted) = resize_refusal layout wanted.items
 location_refusal layout shape _ = None
 
--- The chunks of which the call may ask the key: of a read, those that it names or meets; of a store of a part or of a
--- region, those of which it covers a part alone; of a compaction, its one chunk; of a change of the shape, those that it
--- cuts and of which it keeps some.
--- (The shape is that of the array as the call begins.)
+-- The chunks of which the call may ask the key. Of a read they are those that it names or meets, of a store of a part
+-- or of a region those of which it covers a part only. Of a compaction it is its one chunk, of a change of the shape
+-- those that it cuts and of which it keeps some. (The shape is that of the array as the call begins.)
 abbrev pub Reach : Layout → List ℕ → Call → List ℕ → Type 0
 Reach layout shape (call.StoreChunk index held) i = ⊥
 Reach layout shape (call.StoreChunks range held) i = ⊥

@@ -70,8 +70,8 @@ IsRefusedAs layout keep region held index state r =
 abbrev pub CallFails : ℕ → StoreState → Type 0
 CallFails failed new = (failed ≡ 1) ⊎ (new.calls ≡ last_call)
 
--- Why a chunk does not take its part, in the store state at that moment: its key refuses to be read, or the
--- writing call failed (E7); it does not decode, or the chain takes no such chunk (E4); a size (E8); out of memory (E9).
+-- Why a chunk does not take its part, in the store state at that moment. Its key refuses to be read, or the writing
+-- call failed (E7). It does not decode, or the chain takes no such chunk (E4). A size (E8), or out of memory (E9).
 abbrev pub RefusesPart : Layout → Bool → Box → ArrayData → List ℕ → ℕ → StoreState → Refusal → Type 0
 RefusesPart layout keep region held index failed new refusal.storage =
     ((failed ≡ 0) × (is_too_large layout (box_at layout.grid index).shape ≡ false) × IsPart layout region index
@@ -111,10 +111,10 @@ IsCutAs layout keep shape index state r =
 abbrev pub IsLargeFilling : Layout → List ℕ → Box → Type 0
 IsLargeFilling layout shape box = (k : ℕ) × (k < length shape) × (fill_refusal layout (beyond_box box shape k).shape ≡ Some refusal.size_overflow)
 
--- Why a chunk that has a position below the shape is not cut to it, in the store state at that moment: its key refuses
--- to be read, or the writing call failed (E7); it does not decode, or the chain takes no such chunk (E4); the size of the
--- chunk, of its cells, of a chunk of fill where its bytes leave out cells, of the fill in place of what is cut away, or of its
--- bytes (E8); out of memory (E9).
+-- Why a chunk that has a position below the shape is not cut to it, in the store state at that moment. Its key
+-- refuses to be read, or the writing call failed (E7). It does not decode, or the chain takes no such chunk (E4). A
+-- size is too large (E8): that of the chunk, of its cells, of its bytes, of the fill in place of what is cut away, or
+-- of a chunk of fill where its bytes leave out cells. Or out of memory (E9).
 abbrev pub RefusesKeptCut : Layout → Bool → List ℕ → List ℕ → ℕ → StoreState → Refusal → Type 0
 RefusesKeptCut layout keep shape index failed new refusal.storage =
     ((failed ≡ 0) × (is_too_large layout (box_at layout.grid index).shape ≡ false) × (new.refuses (layout.key index) ≡ true))
@@ -130,8 +130,9 @@ RefusesKeptCut layout keep shape index failed new refusal.size_overflow =
 RefusesKeptCut layout keep shape index failed new refusal.out_of_memory = Unit {0}
 RefusesKeptCut layout keep shape index failed new _ = ⊥
 
--- why a chunk is not cut to the shape: as one that is not erased, if it keeps no cell; else its key refuses, or the writing call
--- failed (E7); it does not decode, or the chain takes no such chunk (E4); a size (E8); out of memory (E9)
+-- why a chunk is not cut to the shape. If it keeps no cell: as one that is not erased. Else its key refuses, or the
+-- writing call failed (E7). It does not decode, or the chain takes no such chunk (E4). A size (E8), or out of memory
+-- (E9)
 pub record RefusesCut (layout : Layout) (keep : Bool) (shape index : List ℕ) (failed : ℕ) (new : StoreState) (r : Refusal) : Type 0 where
   pub gone : keeps_some layout.grid shape index ≡ false → RefusesErasure failed new r
   pub kept : keeps_some layout.grid shape index ≡ true → RefusesKeptCut layout keep shape index failed new r
