@@ -155,7 +155,8 @@ impl ArrayBuilder {
 
     /// Sets the shape of the subchunks that each chunk is cut into, or takes it away. The codecs that are set are then
     /// those of the subchunks, and `sharding_indexed` around them, with its index at the end, is the one codec of the
-    /// chunks.
+    /// chunks. Subchunks that do not divide their chunk are taken too. Then the first store of cells that are not all fill
+    /// is refused (E4).
     pub fn subchunk_shape<S: IntoField<ArrayShape>>(
         &mut self,
         alloc: Global,
