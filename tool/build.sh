@@ -20,20 +20,18 @@ clang() {
     (exec -a clang "$kit/toolchain/bin/clang" "$@")
 }
 
-# A copy of the repository's crates, with those of the tool behind them. The ending .txt goes, and a wrong body is one that no gate tries.
+# A copy of the repository's crates, with the program behind them. The ending .txt goes.
 copy() {
     rm -rf "$room/copy"
     mkdir -p "$room/copy"
     tar -C "$top" --exclude='./crates/*/out' -cf - ./crates ./crates.txt ./HANDLES | tar -C "$room/copy" -xf -
     cat "$tool/crates.txt.part" >> "$room/copy/crates.txt"
-    local crate path to
-    for crate in zarr_commands zarr; do
-        while IFS= read -r path; do
-            to=$room/copy/crates/$crate/${path%.txt}
-            mkdir -p "$(dirname "$to")"
-            cp "$tool/$crate/$path" "${to/%.edit/.edit.md}"
-        done < <(cd "$tool/$crate" && find . -name '*.txt' -type f -not -path './data/*')
-    done
+    local path to
+    while IFS= read -r path; do
+        to=$room/copy/crates/zarr/${path%.txt}
+        mkdir -p "$(dirname "$to")"
+        cp "$tool/zarr/$path" "$to"
+    done < <(cd "$tool/zarr" && find . -name '*.txt' -type f -not -path './data/*')
 }
 
 # Links to a folder's files, but for those that are named.

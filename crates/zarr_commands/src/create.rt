@@ -47,14 +47,16 @@ fn usual_fill(data_type: &str) -> &'static str {
 
 fn design_given<'a>(alloc: Global, given: &Given<'a>) -> Result<Design<'a>, Refusal> {
     let data_type = given.value("type");
+    let fill = given.get("fill").unwrap_or(usual_fill(data_type));
+    let separator = given.get("separator");
     Ok(Design {
         shape: numbers(alloc, given.value("shape"))?,
         chunks: numbers(alloc, given.value("chunks"))?,
         data_type,
-        fill: given.get("fill").unwrap_or(usual_fill(data_type)),
+        fill,
         subchunks: numbers_given(alloc, given, "shard")?,
         is_v2: given.has("v2"),
-        separator: given.get("separator"),
+        separator,
     })
 }
 

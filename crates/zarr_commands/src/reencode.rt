@@ -3,7 +3,7 @@ use crate::create::{numbers_given, store_new};
 use std::alloc::Global;
 use zarr_arrays::{Bands, Opened, Refusal, open};
 use zarr_words::Given;
-use zarrs::codec::{BytesCodec, Endianness};
+use zarrs::codec::BytesCodec;
 use zarrs::{Array, ArraySubset, ArrayToBytesCodec};
 use zarrs_builder::{ArrayBuilder, ToBuilder};
 
@@ -23,25 +23,34 @@ fn changes_given<'a>(alloc: Global, given: &Given<'a>) -> Result<Changes<'a>, Re
     })
 }
 
+/// Tells the builder in which order the bytes of numbers are to lie.
+fn tell_endian(alloc: Global, builder: &mut ArrayBuilder, endian: &str) -> Result<(), Refusal> {
+    let codec = match endian {
+        "little" => BytesCodec::little(),
+        "big" => BytesCodec::big(),
+        _ => return Err(Refusal::said(alloc, "an order of bytes is `little` or `big`")),
+    };
+    builder.array_to_bytes_codec(ArrayToBytesCodec::Bytes(codec));
+    Ok(())
+}
+
 /// Tells the builder what changes.
 fn tell(alloc: Global, builder: &mut ArrayBuilder, changes: Changes<'_>) -> Result<(), Refusal> {
-    if let Some(chunks) = changes.chunks {
+    let Changes {
+        chunks,
+        subchunks,
+        endian,
+    } = changes;
+    if let Some(chunks) = chunks {
         builder.chunk_grid_metadata(alloc, chunks);
     }
-    if let Some(subchunks) = changes.subchunks {
-        builder.subchunk_shape(alloc, Some(subchunks));
+    if subchunks.is_some() {
+        builder.subchunk_shape(alloc, subchunks);
     }
-    match changes.endian {
-        None => {}
-        Some("little") => {
-            builder.array_to_bytes_codec(ArrayToBytesCodec::Bytes(BytesCodec::little()));
-        }
-        Some("big") => {
-            builder.array_to_bytes_codec(ArrayToBytesCodec::Bytes(BytesCodec::big()));
-        }
-        Some(_) => return Err(Refusal::said(alloc, "an order of bytes is `little` or `big`")),
+    match endian {
+        Some(endian) => tell_endian(alloc, builder, endian),
+        None => Ok(()),
     }
-    Ok(())
 }
 
 /// Returns the array of the same cells with other chunks, shards or byte order, without a store.
