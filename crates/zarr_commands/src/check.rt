@@ -1,10 +1,8 @@
 //! `check`.
+use crate::memory::copied;
 use std::alloc::Global;
 use zarr_arrays::{METADATA, Opened, Refusal, is_chunk, present_chunks, read_value};
-use zarrs::{
-    Array, ArrayBytes, ArrayError, Bytes, CodecOptions, FillValue, MemoryStore, StoreKey,
-    WritableStorageTraits,
-};
+use zarrs::{Array, ArrayBytes, CodecOptions, FillValue, MemoryStore};
 use zarrs_directory::{Found, files_below};
 
 /// What was found below a directory.
@@ -17,13 +15,13 @@ struct Counts {
     foreign: u64,
 }
 
-/// What a chunk is.
+/// What was found of a chunk that decodes.
 #[derive(Debug, Drop)]
-enum Verdict {
-    /// It decodes; whether each cell is fill, and whether its bytes are compact.
-    Decodes { is_fill: bool, is_compact: bool },
-    /// It does not decode.
-    Broken(ArrayError),
+struct Decoded {
+    /// Whether each cell is the fill value.
+    is_fill: bool,
+    /// Whether its bytes are compact.
+    is_compact: bool,
 }
 
 /// Returns whether each cell is the fill value.
@@ -45,16 +43,10 @@ fn is_all_fill(fill: &FillValue, cells: &ArrayBytes<'_>) -> bool {
     }
 }
 
-/// Returns the array over a store in memory, which has this value at the key.
-fn copied(
-    array: &Array<()>,
-    alloc: Global,
-    key: &StoreKey,
-    value: Bytes,
-) -> Result<Array<MemoryStore>, Refusal> {
-    let mut memory = MemoryStore::new(alloc);
-    memory.set(alloc, key, value)?;
-    Ok(array.with_storage(alloc, memory)?)
+/// Decodes the chunk. Returns whether each of its cells is the fill value.
+fn is_fill(copy: &Array<MemoryStore>, alloc: Global, indices: &[u64]) -> Result<bool, Refusal> {
+    let cells: ArrayBytes<'static> = copy.retrieve_chunk(alloc, indices)?;
+    Ok(is_all_fill(copy.fill_value(), &cells))
 }
 
 /// Decodes the chunk, and compacts it.
@@ -62,22 +54,16 @@ fn judged(
     copy: &mut Array<MemoryStore>,
     alloc: Global,
     indices: &[u64],
-) -> Result<Option<Verdict>, Refusal> {
+) -> Result<Option<Decoded>, Refusal> {
     if indices.len() != copy.dimensionality() {
         return Ok(None);
     }
-    match copy.retrieve_chunk::<ArrayBytes<'static>>(alloc, indices) {
-        Ok(cells) => {
-            let is_fill = is_all_fill(copy.fill_value(), &cells);
-            drop(cells);
-            let is_compact = !copy.compact_chunk(alloc, indices, &CodecOptions::default())?;
-            Ok(Some(Verdict::Decodes {
-                is_fill,
-                is_compact,
-            }))
-        }
-        Err(error) => Ok(Some(Verdict::Broken(error))),
-    }
+    let is_fill = is_fill(copy, alloc, indices)?;
+    let is_compact = !copy.compact_chunk(alloc, indices, &CodecOptions::default())?;
+    Ok(Some(Decoded {
+        is_fill,
+        is_compact,
+    }))
 }
 
 /// Judges a copy in memory of the chunk that the file has.
@@ -85,7 +71,7 @@ fn look_at(
     opened: &mut Opened<'_>,
     alloc: Global,
     indices: &[u64],
-) -> Result<Option<Verdict>, Refusal> {
+) -> Result<Option<Decoded>, Refusal> {
     if indices.len() != opened.array.dimensionality() {
         return Ok(None);
     }
@@ -94,10 +80,10 @@ fn look_at(
     let Some(value) = read_value(&mut opened.store, alloc, &key)? else {
         return Ok(None);
     };
-    let mut copy = copied(&opened.array, alloc, &key, value)?;
-    let verdict = judged(&mut copy, alloc, indices);
+    let mut copy = copied(&opened.array, alloc, &key, Some(value))?;
+    let found = judged(&mut copy, alloc, indices);
     drop(copy);
-    verdict
+    found
 }
 
 impl Counts {
@@ -105,6 +91,27 @@ impl Counts {
     fn add_foreign(&mut self, rt: &HostRuntime, file: &Found) -> Result<(), Refusal> {
         self.foreign = self.foreign.saturating_add(1);
         println!(rt; "{}: no chunk and no document of this array", file.key)?;
+        Ok(())
+    }
+
+    /// Counts a chunk that decodes, and says if its shard is not compact.
+    fn add_decoded(&mut self, rt: &HostRuntime, key: &str, found: &Decoded) -> Result<(), Refusal> {
+        self.all_fill = self.all_fill.saturating_add(u64::from(found.is_fill));
+        if !found.is_compact {
+            println!(rt; "{key}: its shard has gaps or overlaps")?;
+        }
+        Ok(())
+    }
+
+    /// Counts a chunk that does not decode, and says why.
+    fn add_broken(
+        &mut self,
+        rt: &HostRuntime,
+        key: &str,
+        refusal: &Refusal,
+    ) -> Result<(), Refusal> {
+        self.broken = self.broken.saturating_add(1);
+        println!(rt; "{key}: {refusal}")?;
         Ok(())
     }
 
@@ -120,30 +127,10 @@ impl Counts {
         self.chunks = self.chunks.saturating_add(1);
         self.bytes = self.bytes.saturating_add(file.size);
         match look_at(opened, rt.alloc(), indices) {
-            Ok(
-                Some(
-                    Verdict::Decodes {
-                        is_fill,
-                        is_compact,
-                    },
-                ),
-            ) => {
-                self.all_fill = self.all_fill.saturating_add(u64::from(is_fill));
-                if !is_compact {
-                    println!(rt; "{key}: its shard has gaps or overlaps")?;
-                }
-            }
-            Ok(Some(Verdict::Broken(error))) => {
-                self.broken = self.broken.saturating_add(1);
-                println!(rt; "{key}: {}", Refusal::Call(error))?;
-            }
-            Ok(None) => {}
-            Err(refusal) => {
-                self.broken = self.broken.saturating_add(1);
-                println!(rt; "{key}: {refusal}")?;
-            }
+            Ok(Some(found)) => self.add_decoded(rt, key, &found),
+            Ok(None) => Ok(()),
+            Err(refusal) => self.add_broken(rt, key, &refusal),
         }
-        Ok(())
     }
 
     /// Counts the chunks whose files are there, in row-major order.

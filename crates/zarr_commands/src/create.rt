@@ -45,18 +45,23 @@ fn usual_fill(data_type: &str) -> &'static str {
     }
 }
 
+/// Returns the fill value that was given, or the usual one.
+fn fill_given<'a>(given: &Given<'a>) -> &'a str {
+    match given.get("fill") {
+        Some(fill) => fill,
+        None => usual_fill(given.value("type")),
+    }
+}
+
 fn design_given<'a>(alloc: Global, given: &Given<'a>) -> Result<Design<'a>, Refusal> {
-    let data_type = given.value("type");
-    let fill = given.get("fill").unwrap_or(usual_fill(data_type));
-    let separator = given.get("separator");
     Ok(Design {
         shape: numbers(alloc, given.value("shape"))?,
         chunks: numbers(alloc, given.value("chunks"))?,
-        data_type,
-        fill,
+        data_type: given.value("type"),
+        fill: fill_given(given),
         subchunks: numbers_given(alloc, given, "shard")?,
         is_v2: given.has("v2"),
-        separator,
+        separator: given.get("separator"),
     })
 }
 
@@ -106,25 +111,37 @@ fn separator_of(alloc: Global, word: &str) -> Result<ChunkKeySeparator, Refusal>
     }
 }
 
-/// Makes the V3 array that the design says, over no store.
-fn built_v3(alloc: Global, design: &Design<'_>) -> Result<Array<()>, Refusal> {
-    let Ok(fill) = Value::from_str(alloc, design.fill) else {
-        return Err(Refusal::said(alloc, "E15: the fill value is no JSON"));
-    };
-    let mut builder = ArrayBuilder::new(
-        alloc,
-        design.shape.to_vec(alloc)?,
-        design.chunks.to_vec(alloc)?,
-        design.data_type,
-        FillValueMetadata::from_value(fill),
-    );
+/// Returns the fill value that the design says.
+fn fill_said(alloc: Global, design: &Design<'_>) -> Result<FillValueMetadata, Refusal> {
+    match Value::from_str(alloc, design.fill) {
+        Ok(fill) => Ok(FillValueMetadata::from_value(fill)),
+        Err(_) => Err(Refusal::said(alloc, "E15: the fill value is no JSON")),
+    }
+}
+
+/// Tells the builder the separator and the subchunks of the design.
+fn tell(alloc: Global, builder: &mut ArrayBuilder, design: &Design<'_>) -> Result<(), Refusal> {
     if let Some(word) = design.separator {
         let separator = separator_of(alloc, word)?;
         builder.chunk_key_encoding(ChunkKeyEncoding::Default(separator));
     }
     if let Some(subchunks) = &design.subchunks {
-        builder.subchunk_shape(alloc, Some(subchunks.to_vec(alloc)?));
+        builder.subchunk_shape(alloc, Some(subchunks.as_slice()));
     }
+    Ok(())
+}
+
+/// Makes the V3 array that the design says, over no store.
+fn built_v3(alloc: Global, design: &Design<'_>) -> Result<Array<()>, Refusal> {
+    let fill = fill_said(alloc, design)?;
+    let mut builder = ArrayBuilder::new(
+        alloc,
+        design.shape.as_slice(),
+        design.chunks.as_slice(),
+        design.data_type,
+        fill,
+    );
+    tell(alloc, &mut builder, design)?;
     Ok(builder.build(alloc, (), "/")?)
 }
 

@@ -4,7 +4,7 @@ use std::alloc::Global;
 use std::fs;
 use zarr_arrays::{Opened, Refusal, open, present_chunks};
 use zarr_cells::{Form, Width, cell_text};
-use zarrs::{Array, ArrayMetadata, DataTypeFillValueMetadataError};
+use zarrs::{Array, ArrayError, ArrayMetadata, DataTypeFillValueError};
 use zarrs_directory::{files_below, joined};
 
 /// What is said of an array.
@@ -22,11 +22,12 @@ struct Summary {
     bytes: u64,
 }
 
-/// Returns the extents of the first chunk.
+/// Returns the extents of the first chunk; none if there is no chunk.
 fn chunk_shape(alloc: Global, opened: &Opened<'_>) -> Result<Vec<u64>, Refusal> {
     let origin = vec![in alloc; 0u64; opened.array.dimensionality()]?;
     match opened.array.chunk_subset(alloc, &origin) {
         Ok(chunk) => Ok(chunk.into_shape()),
+        Err(ArrayError::OutOfMemory) => Err(Refusal::OutOfMemory),
         Err(_) => Ok(Vec::new(alloc)),
     }
 }
@@ -45,7 +46,8 @@ fn fill_text(alloc: Global, opened: &Opened<'_>) -> Result<String, Refusal> {
         .metadata_fill_value(alloc, array.fill_value())
     {
         Ok(fill) => Ok(fill.into_value().to_string(alloc)?),
-        Err(_) => Ok(String::from_str(alloc, "null")?),
+        Err(DataTypeFillValueError::OutOfMemory) => Err(Refusal::OutOfMemory),
+        Err(DataTypeFillValueError::Invalid) => Ok(String::from_str(alloc, "null")?),
     }
 }
 

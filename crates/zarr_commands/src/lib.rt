@@ -10,6 +10,7 @@ mod command_line;
 mod create;
 mod diff;
 mod info;
+mod memory;
 mod reencode;
 mod resize;
 mod session;

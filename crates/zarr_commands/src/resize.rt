@@ -1,12 +1,13 @@
 //! `resize`.
 use crate::create::store_document;
+use crate::memory::copied;
 use std::alloc::Global;
 use zarr_arrays::{Opened, Refusal, present_chunks, read_value};
 use zarr_cells::numbers;
 use zarr_words::Given;
 use zarrs::{
-    Array, ArrayBytes, ArraySubset, Bytes, CodecOptions, MemoryStore, ReadableStorageTraits,
-    StoreKey, WritableStorageTraits,
+    Array, ArrayBytes, ArraySubset, Bytes, CodecOptions, ReadableStorageTraits, StoreKey,
+    WritableStorageTraits,
 };
 
 /// What becomes of a chunk.
@@ -47,11 +48,7 @@ fn part_cells(
     indices: &[u64],
     part: &ArraySubset,
 ) -> Result<ArrayBytes<'static>, Refusal> {
-    let mut memory = MemoryStore::new(alloc);
-    if let Some(value) = value {
-        memory.set(alloc, key, value)?;
-    }
-    let whole = array.with_storage(alloc, memory)?;
+    let whole = copied(array, alloc, key, value)?;
     let cells: Result<ArrayBytes<'static>, _> = whole.retrieve_chunk_subset(alloc, indices, part);
     drop(whole);
     Ok(cells?)
@@ -67,7 +64,7 @@ fn part_bytes(
     cells: ArrayBytes<'static>,
     options: &CodecOptions,
 ) -> Result<Option<Bytes>, Refusal> {
-    let mut cut = array.with_storage(alloc, MemoryStore::new(alloc))?;
+    let mut cut = copied(array, alloc, key, None)?;
     let outcome = cut.store_chunk_subset_opt(alloc, indices, part, cells, options);
     let memory = cut.into_storage();
     outcome?;
@@ -120,9 +117,9 @@ fn cut_one(
 }
 
 /// Returns the array with this shape, without a store.
-fn reshaped(array: &Array<()>, alloc: Global, shape: &[u64]) -> Result<Array<()>, Refusal> {
+fn reshaped(array: &Array<()>, alloc: Global, shape: Vec<u64>) -> Result<Array<()>, Refusal> {
     let mut array = array.with_storage(alloc, ())?;
-    array.set_shape(alloc, shape.to_vec(alloc)?)?;
+    array.set_shape(alloc, shape)?;
     Ok(array)
 }
 
@@ -162,7 +159,7 @@ pub(crate) fn resize(
     if shape.len() != opened.array.dimensionality() {
         return Err(Refusal::said(alloc, "E10: the shape has another number of dimensions"));
     }
-    let array = reshaped(&opened.array, alloc, &shape)?;
+    let array = reshaped(&opened.array, alloc, shape)?;
     let outcome = resize_to(rt, opened, given.value("dir"), &array);
     drop(array);
     outcome?;
