@@ -1,4 +1,7 @@
 //! `check`.
+ghost use Rattle.std.specs.Prelude.{◌≡◌, length};
+ghost use Rattle.zarrs.specs.Arrays.{layout_of_array};
+
 use crate::memory::copied;
 use std::alloc::Global;
 use zarr_arrays::{METADATA, Opened, Refusal, is_chunk, present_chunks, read_value};
@@ -50,23 +53,18 @@ fn is_fill(copy: &Array<MemoryStore>, alloc: Global, indices: &[u64]) -> Result<
 }
 
 /// Decodes the chunk, and compacts it.
-fn judged(
-    copy: &mut Array<MemoryStore>,
-    alloc: Global,
-    indices: &[u64],
-) -> Result<Option<Decoded>, Refusal> {
-    if indices.len() != copy.dimensionality() {
-        return Ok(None);
-    }
+fn judged(copy: &mut Array<MemoryStore>, alloc: Global, indices: &[u64]) -> Result<Decoded, Refusal>
+    requires { length indices.now ≡ (layout_of_array copy.old).grid.dimensions }
+{
     let is_fill = is_fill(copy, alloc, indices)?;
     let is_compact = !copy.compact_chunk(alloc, indices, &CodecOptions::default())?;
-    Ok(Some(Decoded {
+    Ok(Decoded {
         is_fill,
         is_compact,
-    }))
+    })
 }
 
-/// Judges a copy in memory of the chunk that the file has.
+/// Judges a copy in memory of the chunk that the file has. Returns nothing if there is no such file.
 fn look_at(
     opened: &mut Opened<'_>,
     alloc: Global,
@@ -83,7 +81,7 @@ fn look_at(
     let mut copy = copied(&opened.array, alloc, &key, Some(value))?;
     let found = judged(&mut copy, alloc, indices);
     drop(copy);
-    found
+    Ok(Some(found?))
 }
 
 impl Counts {

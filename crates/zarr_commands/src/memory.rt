@@ -1,4 +1,7 @@
 //! Copies of an array in memory, over one chunk.
+ghost use Rattle.std.specs.Prelude.{◌≡◌, IfOk};
+ghost use Rattle.zarrs.specs.Arrays.{layout_of_array};
+
 use std::alloc::Global;
 use zarr_arrays::Refusal;
 use zarrs::{Array, Bytes, MemoryStore, StoreKey, WritableStorageTraits};
@@ -9,7 +12,9 @@ pub(crate) fn copied(
     alloc: Global,
     key: &StoreKey,
     value: Option<Bytes>,
-) -> Result<Array<MemoryStore>, Refusal> {
+) -> Result<Array<MemoryStore>, Refusal>
+    ensures { IfOk result (λ copy. layout_of_array copy ≡ layout_of_array array.now) }
+{
     let mut memory = MemoryStore::new(alloc);
     if let Some(value) = value {
         memory.set(alloc, key, value)?;
