@@ -1,5 +1,5 @@
 #!/bin/bash
-# build.sh [FOLDER]: makes FOLDER/zarr (tool/out), the program of these sources over the crates of this repository. Nothing is proved by it.
+# build.sh [FOLDER]: makes FOLDER/zarr (tool/out), the program of the crate `zarr` over the crates of this repository. Nothing is proved by it.
 # TOOL_ROOM: a folder outside the repository where it is built, and which then stays (a new one, removed at the end).
 # README.md says how it is built.
 set -euo pipefail
@@ -20,18 +20,11 @@ clang() {
     (exec -a clang "$kit/toolchain/bin/clang" "$@")
 }
 
-# A copy of the repository's crates, with the program behind them. The ending .txt goes.
+# A copy of the repository's crates.
 copy() {
     rm -rf "$room/copy"
     mkdir -p "$room/copy"
     tar -C "$top" --exclude='./crates/*/out' -cf - ./crates ./crates.txt ./HANDLES | tar -C "$room/copy" -xf -
-    cat "$tool/crates.txt.part" >> "$room/copy/crates.txt"
-    local path to
-    while IFS= read -r path; do
-        to=$room/copy/crates/zarr/${path%.txt}
-        mkdir -p "$(dirname "$to")"
-        cp "$tool/zarr/$path" "$to"
-    done < <(cd "$tool/zarr" && find . -name '*.txt' -type f -not -path './data/*')
 }
 
 # Links to a folder's files, but for those that are named.

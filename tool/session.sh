@@ -1,9 +1,9 @@
 #!/bin/bash
-# session.sh [PROGRAM]: runs the session of zarr/data by the program `zarr` (out/zarr) over a copy of that folder, and compares what it
-# prints with zarr/stdout. The status is 1 if it prints something else, or writes to standard error.
+# session.sh [PROGRAM]: runs the session of crates/zarr/data by the program `zarr` (out/zarr) over a copy of that folder, and compares what
+# it prints with crates/zarr/stdout. The status is 1 if it prints something else, or writes to standard error.
 set -euo pipefail
 tool=$(dirname "$(realpath "$0")")
-crate=$tool/zarr
+crate=$(dirname "$tool")/crates/zarr
 program=$(realpath "${1:-$tool/out/zarr}")
 room=$(mktemp -d)
 trap 'rm -rf "$room"' EXIT
