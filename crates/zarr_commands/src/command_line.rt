@@ -9,7 +9,9 @@ use crate::resize::resize;
 use crate::session::session;
 use std::alloc::Global;
 use zarr_arrays::{Opened, Refusal, open};
-use zarr_words::{ArrayCommand, Command, Given, Usage, command_help, program_help, usage_of};
+use zarr_words::{
+    ArrayCommand, Command, Given, Usage, WordsError, command_help, program_help, usage_of,
+};
 
 /// How the words of a command line end.
 #[derive(Debug, Drop)]
@@ -71,24 +73,36 @@ fn outcome_of(
     }
 }
 
+/// Runs a command on what it was given.
+fn run_given(rt: &HostRuntime, usage: &Usage, given: &Given<'_>) -> Result<Outcome, Refusal> {
+    let answer = answer(rt, usage.command, given);
+    outcome_of(rt.alloc(), usage.name, given.value("dir"), answer)
+}
+
+/// Says why the words of a command are refused, and how it is used.
+fn misused(alloc: Global, usage: &Usage, refusal: &WordsError) -> Result<Outcome, Refusal> {
+    let line = usage.line(alloc)?;
+    let text = format!(in alloc; "zarr {}: {refusal}\nUsage: {line}", usage.name)?;
+    Ok(Outcome::Refused(text))
+}
+
+/// Prints a help.
+fn print_help(rt: &HostRuntime, help: &str) -> Result<Outcome, Refusal> {
+    println!(rt; "{help}")?;
+    Ok(Outcome::Done(true))
+}
+
 /// Runs a command on the words behind its name.
 fn run_command(rt: &HostRuntime, usage: &Usage, words: &[String]) -> Result<Outcome, Refusal> {
     let alloc = rt.alloc();
     if words.iter().any(|word| is_help(word.as_str())) {
         let help = command_help(alloc, usage)?;
-        println!(rt; "{help}")?;
-        return Ok(Outcome::Done(true));
+        return print_help(rt, help.as_str());
     }
-    let given = match Given::of(alloc, usage, words) {
-        Ok(given) => given,
-        Err(refusal) => {
-            let line = usage.line(alloc)?;
-            let text = format!(in alloc; "zarr {}: {refusal}\nUsage: {line}", usage.name)?;
-            return Ok(Outcome::Refused(text));
-        }
-    };
-    let answer = answer(rt, usage.command, &given);
-    outcome_of(alloc, usage.name, given.value("dir"), answer)
+    match Given::of(alloc, usage, words) {
+        Ok(given) => run_given(rt, usage, &given),
+        Err(refusal) => misused(alloc, usage, &refusal),
+    }
 }
 
 fn is_help(word: &str) -> bool {
@@ -104,8 +118,7 @@ pub(crate) fn run_words(rt: &HostRuntime, words: &[String]) -> Result<Outcome, R
     let name = name.as_str();
     if is_help(name) || name == "help" {
         let help = program_help(alloc)?;
-        println!(rt; "{help}")?;
-        return Ok(Outcome::Done(true));
+        return print_help(rt, help.as_str());
     }
     match (usage_of(name), words.get(2..)) {
         (Some(usage), Some(words)) => run_command(rt, &usage, words),
@@ -135,6 +148,30 @@ fn run_all(rt: &HostRuntime, words: &[String]) -> Result<Outcome, Refusal> {
     Ok(Outcome::Done(is_good))
 }
 
+/// Writes why a command was refused to standard error. Returns the status.
+fn tell_refusal(rt: &HostRuntime, text: &str) -> Result<u8, Refusal> {
+    eprintln!(rt; "{text}")?;
+    Ok(2)
+}
+
+/// Returns the status of what the words ended in. The text of a refusal goes to standard error.
+fn status_of(rt: &HostRuntime, outcome: &Outcome) -> Result<u8, Refusal> {
+    match outcome {
+        Outcome::Done(true) => Ok(0),
+        Outcome::Done(false) => Ok(1),
+        Outcome::Refused(text) => tell_refusal(rt, text.as_str()),
+    }
+}
+
+/// Returns the status of words that could not be run. A pipe that nobody reads any more is no failure.
+fn status_of_failure(rt: &HostRuntime, refusal: &Refusal) -> Result<u8, Refusal> {
+    if refusal.is_closed_pipe() {
+        return Ok(0);
+    }
+    eprintln!(rt; "zarr: {refusal}")?;
+    Ok(2)
+}
+
 /// Runs the words of a command line. Returns the status: 0; 1 where the answer is no; 2 for a refusal, whose text goes to
 /// standard error. A pipe that nobody reads any more ends the command quietly.
 ///
@@ -142,16 +179,7 @@ fn run_all(rt: &HostRuntime, words: &[String]) -> Result<Outcome, Refusal> {
 /// Standard error cannot be written.
 pub fn run(rt: &HostRuntime, words: &[String]) -> Result<u8, Refusal> {
     match run_all(rt, words) {
-        Ok(Outcome::Done(true)) => Ok(0),
-        Ok(Outcome::Done(false)) => Ok(1),
-        Ok(Outcome::Refused(text)) => {
-            eprintln!(rt; "{text}")?;
-            Ok(2)
-        }
-        Err(refusal) if refusal.is_closed_pipe() => Ok(0),
-        Err(refusal) => {
-            eprintln!(rt; "zarr: {refusal}")?;
-            Ok(2)
-        }
+        Ok(outcome) => status_of(rt, &outcome),
+        Err(refusal) => status_of_failure(rt, &refusal),
     }
 }

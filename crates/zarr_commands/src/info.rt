@@ -180,21 +180,35 @@ fn is_group(rt: &HostRuntime, dir: &str, key: &str) -> Result<bool, Refusal> {
     }
 }
 
+/// Returns the path of the array whose document is at the key, if there is one.
+fn array_at<'k>(rt: &HostRuntime, dir: &str, key: &'k str) -> Result<Option<&'k str>, Refusal> {
+    let Some(path) = folder_of(key, "zarr.json") else {
+        return Ok(folder_of(key, ".zarray"));
+    };
+    if is_group(rt, dir, key)? {
+        return Ok(None);
+    }
+    Ok(Some(path))
+}
+
+/// Says why the array at this path could not be opened. A pipe that nobody reads any more is an error.
+fn show_refusal(rt: &HostRuntime, path: &str, refusal: Refusal) -> Result<(), Refusal> {
+    if refusal.is_closed_pipe() {
+        return Err(refusal);
+    }
+    println!(rt; "/{path}\n  {refusal}")?;
+    Ok(())
+}
+
 /// Says what the array is whose document is at the key. Returns whether there was an array that could not be opened.
 fn show_document(rt: &HostRuntime, dir: &str, key: &str, as_json: bool) -> Result<bool, Refusal> {
-    let path = match folder_of(key, "zarr.json") {
-        Some(path) if !is_group(rt, dir, key)? => Some(path),
-        Some(_) => None,
-        None => folder_of(key, ".zarray"),
-    };
-    let Some(path) = path else {
+    let Some(path) = array_at(rt, dir, key)? else {
         return Ok(false);
     };
     match show(rt, dir, path, as_json) {
         Ok(()) => Ok(false),
-        Err(refusal) if refusal.is_closed_pipe() => Err(refusal),
         Err(refusal) => {
-            println!(rt; "/{path}\n  {refusal}")?;
+            show_refusal(rt, path, refusal)?;
             Ok(true)
         }
     }
