@@ -1,6 +1,7 @@
 -- What a region and the chunk of some indices share, one dimension at a time.
-use Rattle.std.proofs.Common.{◌≡◌, ◌&&◌, ℕ, ◌+◌, ◌-◌, ◌<◌, ◌≤◌, ◌^◌, max, min, List, length, sym, ◌∙◌, ap, subst, arith}
+use Rattle.std.proofs.Common.{◌≡◌, ◌≢◌, ◌&&◌, ℕ, ◌+◌, ◌-◌, ◌<◌, ◌≤◌, ◌^◌, max, min, List, length, set, sym, ◌∙◌, ap, subst, below_more, arith}
 use Rattle.std.specs.Prelude.{slice_index}
+use Rattle.std.proofs.lemmas.List.{get_or-set_other, get_or-set_same, length-set}
 use Rattle.std.proofs.lemmas.Grind.{same_number_lists}
 use Rattle.zarrs_subset.specs.Boxes.{EndsFit, zip_with}
 use Rattle.zarrs_subset.specs.Regions.{Box, IsLong, LiesInBox, in_box, overlap_of, seen_from, shifted_box}
@@ -69,6 +70,46 @@ module _ (g : Grid) (index : List ℕ) where
       pub begins : x ≡ f k
       pub extent : y ≡ min (slice_index region.start k + slice_index region.shape k) (slice_index chunk.start k + slice_index chunk.shape k) - max (slice_index region.start k) (slice_index chunk.start k)
       pub some : 0 < y
+
+    -- which lies between the first coordinate and the end that the code counts
+    module _ (k region_end chunk_end first end : ℕ)
+        (first_is : first ≡ max (slice_index region.start k) (slice_index chunk.start k)) (end_is : end ≡ min region_end chunk_end)
+        (in_region : region_end ≡ slice_index region.start k + slice_index region.shape k) (in_chunk : chunk_end ≡ slice_index chunk.start k + slice_index chunk.shape k)
+        (some : first < end) where
+      pub seen_along : (corner : ℕ) → corner ≡ slice_index chunk.start k → SharedAlong seen_start k (first - corner) (end - corner - (first - corner))
+      seen_along corner is = record { begins = omega arith; extent = omega arith; some = omega arith }
+
+      pub moved_along : (own : Box) (from corner : ℕ) → from ≡ slice_index region.start k → corner ≡ slice_index own.start k
+          → SharedAlong (moved_start own) k (first - from + corner) (end - from + corner - (first - from + corner))
+      moved_along own from corner is at = record { begins = omega arith; extent = omega arith; some = omega arith }
+
+    -- below n a box of the grid's dimensions has what they share, as it is told by `f`
+    pub record SharedBelow (f : ℕ → ℕ) (box : Box) (n : ℕ) : Type 0 where
+      pub start_long : length box.start ≡ g.dimensions
+      pub shape_long : length box.shape ≡ g.dimensions
+      pub each : (k : ℕ) → k < n → SharedAlong f k (slice_index box.start k) (slice_index box.shape k)
+
+    pub below_none : (f : ℕ → ℕ) (box : Box) → IsLong box → length box.start ≡ g.dimensions → SharedBelow f box 0
+    below_none f box long dimensions = record { start_long = dimensions; shape_long = sym long ∙ dimensions; each = λ k h. absurd (omega arith) }
+
+    -- and along the next dimension
+    pub below_set : (f : ℕ → ℕ) (box new : Box) (n x y : ℕ) → SharedBelow f box n → n < g.dimensions → SharedAlong f n x y
+        → new.start ≡ set box.start n x → new.shape ≡ set box.shape n y → SharedBelow f new (n + 1)
+    below_set f box new n x y below lt here start shape =
+        let in_start : n < length box.start = omega (arith, below.start_long) in
+        let in_shape : n < length box.shape = omega (arith, below.shape_long) in
+        record {
+          start_long = ap length start ∙ length-set box.start n x ∙ below.start_long;
+          shape_long = ap length shape ∙ length-set box.shape n y ∙ below.shape_long;
+          each = below_more _ _
+              (λ k h.
+              let other : k ≢ n = λ e. omega arith in
+              rw (start, shape, get_or-set_other box.start n k x 0 other, get_or-set_other box.shape n k y 0 other) (below.each k h))
+              (rw (start, shape, get_or-set_same box.start n x 0 in_start, get_or-set_same box.shape n y 0 in_shape) here);
+        }
+
+    pub pairs_of : (f : ℕ → ℕ) (box : Box) (n : ℕ) → n ≡ g.dimensions → SharedBelow f box n → PairsBelow (SharedAlong f) box.start box.shape n
+    pairs_of f box n all below = record { start_long = below.start_long ∙ sym all; shape_long = below.shape_long ∙ sym all; each = below.each }
 
     module _ (long : IsLong region) (dimensions : length region.start ≡ g.dimensions) where
       same : length region.start ≡ length chunk.start

@@ -2,7 +2,7 @@
 //!
 //! `zarrs_engine` uses `ArrayLayout`: a grid, a path, a key encoding, a chain and a cell type. It gives the chunks that a
 //! region meets (`chunks_met`), or the one that it lies in (`only_chunk`), and the key, the value and the cells of a
-//! chunk. It refuses bad arguments. `shared_in` and `part_in_chunk` are what a region and a chunk share, and `CutWalk`
+//! chunk. It refuses bad arguments. `ChunkShare` and `part_in_chunk` are what a region and a chunk share, and `CutWalk`
 //! finds the chunks that a new shape cuts.
 //!
 //! `layout_meaning` of `specs/Layouts.antt` gives the `Layout` of `zarrs_engine_calls`, and the ghost field `lawful`
@@ -26,4 +26,4 @@ pub use array_layout::{ArrayLayout, Chunk, invalid_indices};
 pub use cut_walk::CutWalk;
 pub use extents::ChunkExtents;
 pub use resizing::beyond;
-pub use shared::{Shared, covers_chunk, part_in_chunk, shared_in, shared_positions};
+pub use shared::{ChunkShare, Shared, covers_chunk, part_in_chunk, shared_positions};

@@ -3,7 +3,7 @@
 ghost use Rattle.std.specs.Prelude.{◌≡◌, ℕ, ◌+◌, ◌*◌, ◌<◌, ◌≤◌, ◌-◌, ◌^◌, ◌↔◌, ◌&&◌, List, length};
 ghost use Rattle.std.specs.Prelude.{map, slice_index, max, min, Bool, IfOk, IfErr, OnOk, OnErr};
 ghost use Rattle.std.specs.Prelude.{IsTrue, SomeIndex, EachIndex, MatchOption, replicate};
-ghost use Rattle.std.specs.Prelude.{slice_get};
+ghost use Rattle.std.specs.Prelude.{set, slice_get};
 ghost use Rattle.zarrs_subset.specs.Boxes.{EndsFit, ends, zip_with, position_count};
 ghost use Rattle.zarrs_subset.specs.Refusals.{RefusesStartShape, RefusesStartEnd};
 ghost use Rattle.zarrs_subset.specs.Refusals.{RefusesLength, RefusesOffset, RefusesShift};
@@ -154,6 +154,19 @@ impl ArraySubset {
         ensures { result.items ≡ (box_of self).shape }
     {
         self.shape
+    }
+
+    /// Puts other coordinates in the place of those along a dimension.
+    pub fn set_range(&mut self, dimension: usize, range: &Range<u64>)
+        requires dimension { dimension < length (box_of self.old).start }
+        requires ordered { range.now.start ≤ range.now.end }
+        ensures start { (box_of self.new).start
+            ≡ set (box_of self.old).start dimension range.now.start }
+        ensures shape { (box_of self.new).shape ≡ set (box_of self.old).shape dimension
+            (range.now.end - range.now.start) }
+    {
+        self.start[dimension] = range.start;
+        self.shape[dimension] = range.end - range.start;
     }
 
     /// The index after the last one of each dimension.

@@ -6,7 +6,7 @@ use zarrs_codec_chain::ChainTraits;
 use zarrs_codec_leaf::{CodecError, Misfit, StoredValue};
 use zarrs_data_type::{ArrayBytesDecodeIntoTarget, CellType, copy_fill_value_into};
 use zarrs_engine_calls::ArrayError;
-use zarrs_engine_layout::{ArrayLayout, covers_chunk, part_in_chunk, shared_in};
+use zarrs_engine_layout::{ArrayLayout, ChunkShare, covers_chunk};
 use zarrs_keys::ChunkKeyEncodingTraits;
 use zarrs_storage::ReadableStorageTraits;
 use zarrs_subset::ArraySubset;
@@ -113,11 +113,12 @@ impl<
             (box_of region.now) (positions (box_of chunks.now)) (store_of S.state self.now)
             (refusal_of e)) }
     {
+        let mut share = ChunkShare::new(alloc);
         let Some(mut walk) = chunks.walk(alloc)? else {
             return Ok(());
         };
         loop {
-            self.read_chunk_into(alloc, region, walk.current(), target, filled)?;
+            self.read_chunk_into(alloc, region, walk.current(), target, &mut share, filled)?;
             if !walk.advance() {
                 return Ok(());
             }
@@ -131,6 +132,7 @@ impl<
         region: &ArraySubset,
         chunk_indices: &[u64],
         target: &mut ArrayBytesDecodeIntoTarget<'_, '_, '_>,
+        share: &mut ChunkShare,
         filled: bool,
     ) -> Result<(), ArrayError>
         requires boxed { has_box (layout_of self.now).grid chunk_indices.now ≡ true }
@@ -143,9 +145,9 @@ impl<
             chunk_indices.now (store_of S.state self.now) target.old target.new result }
     {
         if covers_chunk(&self.layout.grid, region, chunk_indices) {
-            return self.read_whole_into(alloc, region, chunk_indices, target, filled);
+            return self.read_whole_into(alloc, region, chunk_indices, target, share, filled);
         }
-        self.read_part_into(alloc, region, chunk_indices, target, filled)
+        self.read_part_into(alloc, region, chunk_indices, target, share, filled)
     }
 
     /// The same, of a chunk that the region covers.
@@ -156,6 +158,7 @@ impl<
         region: &ArraySubset,
         chunk_indices: &[u64],
         target: &mut ArrayBytesDecodeIntoTarget<'_, '_, '_>,
+        share: &mut ChunkShare,
         filled: bool,
     ) -> Result<(), ArrayError>
         requires boxed { has_box (layout_of self.now).grid chunk_indices.now ≡ true }
@@ -170,18 +173,18 @@ impl<
             chunk_indices.now (store_of S.state self.now) target.old target.new result }
     {
         let Some(encoded) = self.stored_bytes(alloc, chunk_indices)? else {
-            return self.read_absent_into(alloc, region, chunk_indices, target, filled);
-        };
-        let grid = &self.layout.grid;
-        let Some(own) = shared_in(alloc, grid, region, chunk_indices, target.region)? else {
-            return Ok(());
+            return self.read_absent_into(alloc, region, chunk_indices, target, share, filled);
         };
         let ArrayLayout {
+            grid,
             chain,
             cell_type,
             ..
         } = &self.layout;
-        let mut part = target.subdivide(&own);
+        if !share.find(alloc, grid, region, chunk_indices, target.region)? {
+            return Ok(());
+        }
+        let mut part = target.subdivide(&share.own);
         let done = chain.decode_into(alloc, &encoded, cell_type, &mut part.target);
         target.rejoin(part);
         done?;
@@ -197,6 +200,7 @@ impl<
         region: &ArraySubset,
         chunk_indices: &[u64],
         target: &mut ArrayBytesDecodeIntoTarget<'_, '_, '_>,
+        share: &mut ChunkShare,
         filled: bool,
     ) -> Result<(), ArrayError>
         requires boxed { has_box (layout_of self.now).grid chunk_indices.now ≡ true }
@@ -212,21 +216,18 @@ impl<
     {
         let key = self.layout.chunk_key(alloc, chunk_indices)?;
         let Some(source) = StoredValue::open(alloc, &self.storage, &key)? else {
-            return self.read_absent_into(alloc, region, chunk_indices, target, filled);
+            return self.read_absent_into(alloc, region, chunk_indices, target, share, filled);
         };
         let extents = self.layout.chunk_shape(alloc, chunk_indices)?;
         let grid = &self.layout.grid;
-        let Some(part) = part_in_chunk(alloc, grid, region, chunk_indices)? else {
+        if !share.find(alloc, grid, region, chunk_indices, target.region)? {
             return Ok(());
-        };
-        let Some(own) = shared_in(alloc, grid, region, chunk_indices, target.region)? else {
-            return Ok(());
-        };
+        }
         let shape = extents.as_slice();
-        let mut lent = target.subdivide(&own);
+        let mut lent = target.subdivide(&share.own);
         let done = self
             .layout
-            .decode_part_into(alloc, shape, &source, &part, &mut lent.target);
+            .decode_part_into(alloc, shape, &source, &share.part, &mut lent.target);
         target.rejoin(lent);
         done
     }
@@ -239,6 +240,7 @@ impl<
         region: &ArraySubset,
         chunk_indices: &[u64],
         target: &mut ArrayBytesDecodeIntoTarget<'_, '_, '_>,
+        share: &mut ChunkShare,
         filled: bool,
     ) -> Result<(), ArrayError>
         requires boxed { has_box (layout_of self.now).grid chunk_indices.now ≡ true }
@@ -254,14 +256,14 @@ impl<
             return Ok(());
         }
         let grid = &self.layout.grid;
-        let Some(own) = shared_in(alloc, grid, region, chunk_indices, target.region)? else {
+        if !share.find(alloc, grid, region, chunk_indices, target.region)? {
             return Ok(());
-        };
+        }
         let CellType {
             data_type,
             fill_value,
         } = &self.layout.cell_type;
-        let mut part = target.subdivide(&own);
+        let mut part = target.subdivide(&share.own);
         let done = copy_fill_value_into(alloc, data_type, fill_value, &mut part.target);
         target.rejoin(part);
         done?;

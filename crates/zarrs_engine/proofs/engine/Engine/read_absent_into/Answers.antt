@@ -1,4 +1,5 @@
 use Rattle.std.proofs.Common.{◌≡◌, ◌∙◌, None, Some, ap, refl, rules, sym}
+use Rattle.std.proofs.lemmas.Bool.{OnFalse_at, OnTrue_at}
 use Rattle.zarrs_subset.specs.Regions.{Box, box_of, overlap_of, seen_from}
 use Rattle.zarrs_subset.proofs.Inside.{holds_inside}
 use Rattle.zarrs_chunk_grid.specs.Grids.{box_at}
@@ -25,17 +26,17 @@ returns-then-filled g c =
     into_absent layout c.args.self.now.layout.lawful (box_of c.args.region.now) state (parent_box t) (target_box t) c.args.filled c.args.chunk_indices.now c.requires.boxed (data_of_target t) c.if-filled.true c.requires.absent in
     record { kept = keeps_itself t; read = read; refused = tt }
 
-pub returns-in_err-own : goal.returns-in_err-own
-returns-in_err-own g c =
+pub returns-in_err-find : goal.returns-in_err-find
+returns-in_err-find g c =
     let kept = keeps_itself c.args.target.now in
     search (rules, kept)
 
-pub returns-in_default : goal.returns-in_default
-returns-in_default g c =
+pub returns-then-not-branch : goal.returns-then-not-branch
+returns-then-not-branch g c =
     let layout = layout_of c.args.self.now in
     let state = g.S.ReadableStorageTraits.state c.args.self.now.storage in
     let t = c.args.target.now in
-    let apart = rw c.in_default.is at c.in_ok-own.ensures.none in
+    let apart = OnFalse_at c.if-not-branch.true c.in_ok-find.ensures.none in
     let read =
     into_apart layout c.args.self.now.layout.lawful (box_of c.args.region.now) state (parent_box t) (target_box t) c.args.filled c.args.chunk_indices.now c.requires.boxed (data_of_target t) apart in
     record { kept = keeps_itself t; read = read; refused = tt }
@@ -45,10 +46,10 @@ subdivide-part-requires g c =
     let layout = layout_of c.args.self.now in
     let t = c.args.target.now in
     let index = c.args.chunk_indices.now in
-    let is : IsSharedIn (target_box t) (box_of c.args.region.now) (box_at layout.grid index) (box_of c.in-Some.own) = rw c.in-Some.is at c.in_ok-own.ensures.some in
+    let is : IsSharedIn (target_box t) (box_of c.args.region.now) (box_at layout.grid index) (box_of c.find.new.self.own) = OnTrue_at c.if-not-branch.false c.in_ok-find.ensures.own in
     record {
       inside =
-          made_lies (target_box t) (box_of c.args.region.now) (box_at layout.grid index) (box_of c.in-Some.own) t.region.now.same_length c.args.region.now.same_length (box_long layout.grid index)
+          made_lies (target_box t) (box_of c.args.region.now) (box_at layout.grid index) (box_of c.find.new.self.own) t.region.now.same_length c.args.region.now.same_length (box_long layout.grid index)
           c.requires.target.same_shape is;
     }
 
@@ -74,9 +75,9 @@ returns g c =
     let u = c.rejoin.new.self in
     let lent = c.subdivide-part.ensures in
     let written = c.copy_fill_value_into-done.ensures in
-    let made = box_of c.in-Some.own in
+    let made = box_of c.find.new.self.own in
     let lends : IsTakenBack made t l p q u = record { bytes = lent.bytes; masks = lent.masks; lent = lent.lent; kept = written.kept; back = c.rejoin.ensures } in
-    let is : IsSharedIn (target_box t) region chunk made = rw c.in-Some.is at c.in_ok-own.ensures.some in
+    let is : IsSharedIn (target_box t) region chunk made = OnTrue_at c.if-not-branch.false c.in_ok-find.ensures.own in
     let made_is : target_box p ≡ made = lent.bytes.region in
     let region_long = c.args.region.now.same_length in
     let chunk_long = box_long layout.grid index in
@@ -100,9 +101,9 @@ returns-in_err-done g c =
     let index = c.args.chunk_indices.now in
     let t = c.args.target.now in
     let lent = c.subdivide-part.ensures in
-    let made = box_of c.in-Some.own in
+    let made = box_of c.find.new.self.own in
     let chunk = box_at layout.grid index in
-    let is : IsSharedIn (target_box t) (box_of c.args.region.now) chunk made = rw c.in-Some.is at c.in_ok-own.ensures.some in
+    let is : IsSharedIn (target_box t) (box_of c.args.region.now) chunk made = OnTrue_at c.if-not-branch.false c.in_ok-find.ensures.own in
     let kept = back_kept made t c.subdivide-part.new.self c.subdivide-part.result.target c.copy_fill_value_into-done.new.target c.rejoin.new.self
     (record { bytes = lent.bytes; masks = lent.masks; lent = lent.lent; kept = c.copy_fill_value_into-done.ensures.kept; back = c.rejoin.ensures }) (box_of c.args.region.now) chunk c.args.region.now.same_length
     (box_long layout.grid index) c.requires.target.same_shape is in

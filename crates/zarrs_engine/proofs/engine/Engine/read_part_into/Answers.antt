@@ -1,5 +1,6 @@
 use Rattle.std.proofs.Common.{◌≡◌, ◌∙◌, ℕ, List, [], ◌∷◌, true, Some, ap, refl, sym, subst, rules}
 use Rattle.std.proofs.lemmas.Result.{IfErr-weaker, on_ok_weaker}
+use Rattle.std.proofs.lemmas.Bool.{OnFalse_at, OnTrue_at}
 use Rattle.zarrs_subset.specs.Regions.{Box, LiesInShape, box_of, overlap_of}
 use Rattle.zarrs_chunk_grid.specs.Grids.{box_at}
 use Rattle.zarrs_chunk_grid.proofs.Chunks.{box_long}
@@ -70,32 +71,17 @@ returns-in_err-extents g c =
     let kept = keeps_itself c.args.target.now in
     search (rules, why, kept)
 
-pub returns-in_err-part : goal.returns-in_err-part
-returns-in_err-part g c =
+pub returns-in_err-find : goal.returns-in_err-find
+returns-in_err-find g c =
     let kept = keeps_itself c.args.target.now in
     search (rules, kept)
 
-pub returns-in_default-2 : goal.returns-in_default-2
-returns-in_default-2 g c =
+pub returns-then-not-branch : goal.returns-then-not-branch
+returns-then-not-branch g c =
     let layout = layout_of c.args.self.now in
     let state = g.S.ReadableStorageTraits.state c.args.self.now.storage in
     let t = c.args.target.now in
-    let apart = rw c.in_default-2.is at c.in_ok-part.ensures.none in
-    let read =
-    into_apart layout c.args.self.now.layout.lawful (box_of c.args.region.now) state (parent_box t) (target_box t) c.args.filled c.args.chunk_indices.now c.requires.boxed (data_of_target t) apart in
-    record { kept = keeps_itself t; read = read; refused = tt }
-
-pub returns-in_err-own : goal.returns-in_err-own
-returns-in_err-own g c =
-    let kept = keeps_itself c.args.target.now in
-    search (rules, kept)
-
-pub returns-in_default-3 : goal.returns-in_default-3
-returns-in_default-3 g c =
-    let layout = layout_of c.args.self.now in
-    let state = g.S.ReadableStorageTraits.state c.args.self.now.storage in
-    let t = c.args.target.now in
-    let apart = rw c.in_default-3.is at c.in_ok-own.ensures.none in
+    let apart = OnFalse_at c.if-not-branch.true c.in_ok-find.ensures.none in
     let read =
     into_apart layout c.args.self.now.layout.lawful (box_of c.args.region.now) state (parent_box t) (target_box t) c.args.filled c.args.chunk_indices.now c.requires.boxed (data_of_target t) apart in
     record { kept = keeps_itself t; read = read; refused = tt }
@@ -105,10 +91,10 @@ subdivide-lent-requires g c =
     let layout = layout_of c.args.self.now in
     let t = c.args.target.now in
     let index = c.args.chunk_indices.now in
-    let is : IsSharedIn (target_box t) (box_of c.args.region.now) (box_at layout.grid index) (box_of c.in-Some-3.own) = rw c.in-Some-3.is at c.in_ok-own.ensures.some in
+    let is : IsSharedIn (target_box t) (box_of c.args.region.now) (box_at layout.grid index) (box_of c.find.new.self.own) = OnTrue_at c.if-not-branch.false c.in_ok-find.ensures.own in
     record {
       inside =
-          made_lies (target_box t) (box_of c.args.region.now) (box_at layout.grid index) (box_of c.in-Some-3.own) t.region.now.same_length c.args.region.now.same_length (box_long layout.grid index)
+          made_lies (target_box t) (box_of c.args.region.now) (box_at layout.grid index) (box_of c.find.new.self.own) t.region.now.same_length c.args.region.now.same_length (box_long layout.grid index)
           c.requires.target.same_shape is;
     }
 
@@ -125,8 +111,8 @@ decode_part_into-done-requires-clause-part g c =
     let region = box_of c.args.region.now in
     let index = c.args.chunk_indices.now in
     let chunk = box_at layout.grid index in
-    let shared = rw c.in-Some-2.is at c.in_ok-part.ensures.some in
-    subst (λ (s : List ℕ). LiesInShape (box_of c.in-Some-2.part) s) (sym (c.as_slice-shape.ensures ∙ c.in_ok-extents.ensures.answer)) shared.lies
+    let shared = OnTrue_at c.if-not-branch.false c.in_ok-find.ensures.part in
+    subst (λ (s : List ℕ). LiesInShape (box_of c.find.new.self.part) s) (sym (c.as_slice-shape.ensures ∙ c.in_ok-extents.ensures.answer)) shared.lies
 
 pub decode_part_into-done-requires-clause-may_read : goal.decode_part_into-done-requires-clause-may_read
 decode_part_into-done-requires-clause-may_read g c = λ place needed.
@@ -139,8 +125,8 @@ decode_part_into-done-requires-clause-may_read g c = λ place needed.
     let state_is : state_of_source source ≡ state = rw c.in-Some.is at c.in_ok-source.ensures.state in
     let key_is : key_of_source source ≡ layout.key index = (rw c.in-Some.is at c.in_ok-source.ensures.key) ∙ c.in_ok-key.ensures.key in
     let found = source_value (state_of_source source) state (key_of_source source) (layout.key index) source.size state_is key_is source.sized in
-    let part = box_of c.in-Some-2.part in
-    let shared = rw c.in-Some-2.is at c.in_ok-part.ensures.some in
+    let part = box_of c.find.new.self.part in
+    let shared = OnTrue_at c.if-not-branch.false c.in_ok-find.ensures.part in
     let shape : c.as_slice-shape.result.now ≡ chunk.shape = c.as_slice-shape.ensures ∙ c.in_ok-extents.ensures.answer in
     let words = index_list layout c.args.self.now.layout.lawful index c.requires.boxed in
     let there = subst (λ (b : Box). layout.chain.places layout.kind chunk.shape b found.0 place ≡ true) shared.part_is
@@ -158,8 +144,8 @@ decode_part_into-done-requires-clause-same_shape g c =
     let index = c.args.chunk_indices.now in
     let chunk = box_at layout.grid index in
     let t = c.args.target.now in
-    let shared = rw c.in-Some-2.is at c.in_ok-part.ensures.some in
-    let is = rw c.in-Some-3.is at c.in_ok-own.ensures.some in
+    let shared = OnTrue_at c.if-not-branch.false c.in_ok-find.ensures.part in
+    let is = OnTrue_at c.if-not-branch.false c.in_ok-find.ensures.own in
     ap (λ (b : Box). b.shape) (c.subdivide-lent.ensures.bytes.region ∙ is.made_is) ∙ sym (ap (λ (b : Box). b.shape) shared.part_is)
 
 pub returns : goal.returns
@@ -178,9 +164,9 @@ returns g c =
     let u = c.rejoin.new.self in
     let lent = c.subdivide-lent.ensures in
     let written = c.decode_part_into-done.ensures in
-    let made = box_of c.in-Some-3.own in
+    let made = box_of c.find.new.self.own in
     let lends : IsTakenBack made t l p q u = record { bytes = lent.bytes; masks = lent.masks; lent = lent.lent; kept = written.kept; back = c.rejoin.ensures } in
-    let is : IsSharedIn (target_box t) region chunk made = rw c.in-Some-3.is at c.in_ok-own.ensures.some in
+    let is : IsSharedIn (target_box t) region chunk made = OnTrue_at c.if-not-branch.false c.in_ok-find.ensures.own in
     let made_is : target_box p ≡ made = lent.bytes.region in
     let region_long = c.args.region.now.same_length in
     let chunk_long = box_long layout.grid index in
@@ -188,8 +174,8 @@ returns g c =
     let state_is : state_of_source source ≡ state = rw c.in-Some.is at c.in_ok-source.ensures.state in
     let key_is : key_of_source source ≡ layout.key index = (rw c.in-Some.is at c.in_ok-source.ensures.key) ∙ c.in_ok-key.ensures.key in
     let found = source_value (state_of_source source) state (key_of_source source) (layout.key index) source.size state_is key_is source.sized in
-    let part = box_of c.in-Some-2.part in
-    let shared = rw c.in-Some-2.is at c.in_ok-part.ensures.some in
+    let part = box_of c.find.new.self.part in
+    let shared = OnTrue_at c.if-not-branch.false c.in_ok-find.ensures.part in
     let shape : c.as_slice-shape.result.now ≡ chunk.shape = c.as_slice-shape.ensures ∙ c.in_ok-extents.ensures.answer in
     let bytes = value_or_empty (state_of_source source) (key_of_source source) in
     let same : (state_of_source source).refuses (key_of_source source) ≡ state.refuses (layout.key index) =
