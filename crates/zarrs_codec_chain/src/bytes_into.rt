@@ -161,15 +161,15 @@ fn turn_part<T: Turning<N>, const N: usize>(
         target.old.parent_shape.now (target_box target.old) array.now target.old.bytes.now
         target.new.bytes.now }
 {
-    turn_rows::<T, N>(
-        array,
+    let from = Corner {
         shape,
-        part.start(),
-        target.bytes,
-        target.parent_shape,
-        target.region.start(),
-        part.shape(),
-    );
+        start: part.start(),
+    };
+    let to = Corner {
+        shape: target.parent_shape,
+        start: target.region.start(),
+    };
+    turn_rows::<T, N>(array, from, target.bytes, to, part.shape());
 }
 
 /// Whether rows of the part go straight to their places. They are found dimension by dimension, by calls as deep as there
@@ -279,89 +279,95 @@ fn turn_run<T: Turning<N>, const N: usize>(source: &[u8], target: &mut [u8], cou
 
 /// Where the first block that a box reaches begins in an array of `len` bytes, and how long a block is: what one index
 /// of the first dimension holds.
-fn first_block(len: usize, shape: &[u64], start: &[u64], extents: &[u64]) -> (usize, usize)
+fn first_block(len: usize, corner: Corner<'_>, extents: &[u64]) -> (usize, usize)
     requires some { 0 < length extents.now }
     requires nonempty { 0 < slice_index extents.now 0 }
-    requires fits { BoxFits start.now extents.now shape.now }
-    ensures offset { result.0 ≡ slice_index start.now 0 * result.1 }
+    requires fits { BoxFits corner.start.now extents.now corner.shape.now }
+    ensures offset { result.0 ≡ slice_index corner.entry.start.now 0 * result.1 }
     ensures room { result.0 + slice_index extents.now 0 * result.1 ≤ len }
-    ensures block { (size : ℕ) → len ≡ position_count shape.now * size
-        → result.1 ≡ position_count (slice_range shape.now 1 (length shape.now)) * size }
-    ensures shape_some { 0 < length shape.now }
-    ensures start_some { 0 < length start.now }
-    ensures inner { BoxFits (slice_range start.now 1 (length start.now))
+    ensures block { (size : ℕ) → len ≡ position_count corner.entry.shape.now * size
+        → result.1 ≡ position_count (slice_range corner.entry.shape.now 1
+        (length corner.entry.shape.now)) * size }
+    ensures shape_some { 0 < length corner.entry.shape.now }
+    ensures start_some { 0 < length corner.entry.start.now }
+    ensures inner { BoxFits
+        (slice_range corner.entry.start.now 1 (length corner.entry.start.now))
         (slice_range extents.now 1 (length extents.now))
-        (slice_range shape.now 1 (length shape.now)) }
+        (slice_range corner.entry.shape.now 1 (length corner.entry.shape.now)) }
 {
-    let block = len / shape[0] as usize;
-    (start[0] as usize * block, block)
+    let block = len / corner.shape[0] as usize;
+    (corner.start[0] as usize * block, block)
 }
 
 /// Does what `turn_rows` does in one dimension.
 fn turn_row<T: Turning<N>, const N: usize>(
     source: &[u8],
-    source_shape: &[u64],
-    source_start: &[u64],
+    from: Corner<'_>,
     target: &mut [u8],
-    target_shape: &[u64],
-    target_start: &[u64],
+    to: Corner<'_>,
     extents: &[u64],
 )
     requires some { 0 < N }
     requires small { N < 9 }
     requires one_dimension { length extents.now ≡ 1 }
-    requires source_fits { BoxFits source_start.now extents.now source_shape.now }
-    requires target_fits { BoxFits target_start.now extents.now target_shape.now }
-    requires source_len { length source.now ≡ position_count source_shape.now * N }
-    requires target_len { length target.old ≡ position_count target_shape.now * N }
+    requires source_fits { BoxFits from.start.now extents.now from.shape.now }
+    requires target_fits { BoxFits to.start.now extents.now to.shape.now }
+    requires source_len { length source.now ≡ position_count from.shape.now * N }
+    requires target_len { length target.old ≡ position_count to.shape.now * N }
     ensures { (turned : List ℕ) → IsTurned N source.now turned
-        → BoxCopied N source_shape.now source_start.now target_shape.now target_start.now
-        extents.now turned target.old target.new }
+        → BoxCopied N from.entry.shape.now from.entry.start.now to.entry.shape.now
+        to.entry.start.now extents.now turned target.old target.new }
 {
     let count = extents[0] as usize;
-    let from = source_start[0] as usize * N;
-    let to = target_start[0] as usize * N;
+    let read = from.start[0] as usize * N;
+    let write = to.start[0] as usize * N;
     let len = count * N;
-    turn_run::<T, N>(&source[from..from + len], &mut target[to..to + len], count);
+    turn_run::<T, N>(
+        &source[read..read + len],
+        &mut target[write..write + len],
+        count,
+    );
 }
 
 /// Does what `turn_rows` does in two dimensions.
 fn turn_plane<T: Turning<N>, const N: usize>(
     source: &[u8],
-    source_shape: &[u64],
-    source_start: &[u64],
+    from: Corner<'_>,
     target: &mut [u8],
-    target_shape: &[u64],
-    target_start: &[u64],
+    to: Corner<'_>,
     extents: &[u64],
 )
     requires some { 0 < N }
     requires small { N < 9 }
     requires two_dimensions { length extents.now ≡ 2 }
-    requires source_fits { BoxFits source_start.now extents.now source_shape.now }
-    requires target_fits { BoxFits target_start.now extents.now target_shape.now }
-    requires source_len { length source.now ≡ position_count source_shape.now * N }
-    requires target_len { length target.old ≡ position_count target_shape.now * N }
+    requires source_fits { BoxFits from.start.now extents.now from.shape.now }
+    requires target_fits { BoxFits to.start.now extents.now to.shape.now }
+    requires source_len { length source.now ≡ position_count from.shape.now * N }
+    requires target_len { length target.old ≡ position_count to.shape.now * N }
     ensures { (turned : List ℕ) → IsTurned N source.now turned
-        → BoxCopied N source_shape.now source_start.now target_shape.now target_start.now
-        extents.now turned target.old target.new }
+        → BoxCopied N from.entry.shape.now from.entry.start.now to.entry.shape.now
+        to.entry.start.now extents.now turned target.old target.new }
 {
     let extent = extents[0] as usize;
     if extent == 0 {
         return;
     }
-    let (from, source_block) = first_block(source.len(), source_shape, source_start, extents);
-    let (to, target_block) = first_block(target.len(), target_shape, target_start, extents);
+    let (first, source_block) = first_block(source.len(), from, extents);
+    let (target_first, target_block) = first_block(target.len(), to, extents);
     for row in 0..extent {
-        let read = from + row * source_block;
-        let write = to + row * target_block;
+        let read = first + row * source_block;
+        let write = target_first + row * target_block;
         turn_row::<T, N>(
             &source[read..read + source_block],
-            &source_shape[1..],
-            &source_start[1..],
+            Corner {
+                shape: &from.shape[1..],
+                start: &from.start[1..],
+            },
             &mut target[write..write + target_block],
-            &target_shape[1..],
-            &target_start[1..],
+            Corner {
+                shape: &to.shape[1..],
+                start: &to.start[1..],
+            },
             &extents[1..],
         );
     }
@@ -371,67 +377,47 @@ fn turn_plane<T: Turning<N>, const N: usize>(
 /// row.
 fn turn_rows<T: Turning<N>, const N: usize>(
     source: &[u8],
-    source_shape: &[u64],
-    source_start: &[u64],
+    from: Corner<'_>,
     target: &mut [u8],
-    target_shape: &[u64],
-    target_start: &[u64],
+    to: Corner<'_>,
     extents: &[u64],
 )
     requires some { 0 < N }
     requires small { N < 9 }
-    requires source_fits { BoxFits source_start.now extents.now source_shape.now }
-    requires target_fits { BoxFits target_start.now extents.now target_shape.now }
-    requires source_len { length source.now ≡ position_count source_shape.now * N }
-    requires target_len { length target.old ≡ position_count target_shape.now * N }
+    requires source_fits { BoxFits from.start.now extents.now from.shape.now }
+    requires target_fits { BoxFits to.start.now extents.now to.shape.now }
+    requires source_len { length source.now ≡ position_count from.shape.now * N }
+    requires target_len { length target.old ≡ position_count to.shape.now * N }
     ensures { (turned : List ℕ) → IsTurned N source.now turned
-        → BoxCopied N source_shape.now source_start.now target_shape.now target_start.now
-        extents.now turned target.old target.new }
+        → BoxCopied N from.entry.shape.now from.entry.start.now to.entry.shape.now
+        to.entry.start.now extents.now turned target.old target.new }
 {
-    if extents.is_empty() {
-        turn_run::<T, N>(source, target, 1);
-        return;
-    }
-    if extents.len() == 1 {
-        turn_row::<T, N>(
-            source,
-            source_shape,
-            source_start,
-            target,
-            target_shape,
-            target_start,
-            extents,
-        );
-        return;
-    }
-    if extents.len() == 2 {
-        turn_plane::<T, N>(
-            source,
-            source_shape,
-            source_start,
-            target,
-            target_shape,
-            target_start,
-            extents,
-        );
-        return;
+    match extents.len() {
+        0 => return turn_run::<T, N>(source, target, 1),
+        1 => return turn_row::<T, N>(source, from, target, to, extents),
+        2 => return turn_plane::<T, N>(source, from, target, to, extents),
+        _ => {}
     }
     let extent = extents[0] as usize;
     if extent == 0 {
         return;
     }
-    let (from, source_block) = first_block(source.len(), source_shape, source_start, extents);
-    let (to, target_block) = first_block(target.len(), target_shape, target_start, extents);
+    let (first, source_block) = first_block(source.len(), from, extents);
+    let (target_first, target_block) = first_block(target.len(), to, extents);
     for row in 0..extent {
-        let read = from + row * source_block;
-        let write = to + row * target_block;
+        let read = first + row * source_block;
+        let write = target_first + row * target_block;
         turn_rows::<T, N>(
             &source[read..read + source_block],
-            &source_shape[1..],
-            &source_start[1..],
+            Corner {
+                shape: &from.shape[1..],
+                start: &from.start[1..],
+            },
             &mut target[write..write + target_block],
-            &target_shape[1..],
-            &target_start[1..],
+            Corner {
+                shape: &to.shape[1..],
+                start: &to.start[1..],
+            },
             &extents[1..],
         );
     }

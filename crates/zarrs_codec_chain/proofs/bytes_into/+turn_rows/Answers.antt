@@ -15,8 +15,8 @@ turn_run-requires-clause-target_len g t c =
     let none : length c.args.extents.now ≡ 0 = search rules in
     omega (arith, one_cell _ _ _ _ _ none c.requires.target_fits c.requires.target_len)
 
-pub returns-then-is_empty : goal.returns-then-is_empty
-returns-then-is_empty g t c = λ turned is.
+pub returns-in-0 : goal.returns-in-0
+returns-in-0 g t c = λ turned is.
     rw (c.turn_run.ensures turned is)
     (BoxCopied-none _ _ _ _ _ _ _ _ (search rules) c.requires.source_fits c.requires.target_fits)
 
@@ -28,13 +28,13 @@ returns-then-extent-eq0 g t c = λ turned is.
 pub turn_rows-requires : goal.turn_rows-requires
 turn_rows-requires g t c κs within =
     let some : 0 < length c.args.extents.now = search rules in
-    let read = c.first_block-from.ensures.block _ c.requires.source_len in
-    let write = c.first_block-to.ensures.block _ c.requires.target_len in
+    let read = c.first_block-first.ensures.block _ c.requires.source_len in
+    let write = c.first_block-target_first.ensures.block _ c.requires.target_len in
     let row = c.loop-row.row in
-    let sb = c.first_block-from.result.1 in
-    let tb = c.first_block-to.result.1 in
-    let source_room : c.first_block-from.result.0 + row * sb + sb ≤ length c.args.source.now = omega (arith, block_order row _ sb c.loop-row-test.true) in
-    let room : c.first_block-to.result.0 + row * tb + tb ≤ length c.loop-row.target = omega (arith, block_order row _ tb c.loop-row-test.true) in (
+    let sb = c.first_block-first.result.1 in
+    let tb = c.first_block-target_first.result.1 in
+    let source_room : c.first_block-first.result.0 + row * sb + sb ≤ length c.args.source.now = omega (arith, block_order row _ sb c.loop-row-test.true) in
+    let room : c.first_block-target_first.result.0 + row * tb + tb ≤ length c.loop-row.target = omega (arith, block_order row _ tb c.loop-row-test.true) in (
       first_of (omega (arith, c.decreases, shorter c.args.extents.now some), search rules),
       (
         search rules,
@@ -45,8 +45,8 @@ turn_rows-requires g t c κs within =
             (
               c.requires.small,
               (
-                c.first_block-from.ensures.inner,
-                (c.first_block-to.ensures.inner, (length_part _ _ _ source_room ∙ read, length_part _ _ _ room ∙ write)),
+                c.first_block-first.ensures.inner,
+                (c.first_block-target_first.ensures.inner, (length_part _ _ _ source_room ∙ read, length_part _ _ _ room ∙ write)),
               ),
             ),
           ),
@@ -60,19 +60,19 @@ loop-row-preserved g t c = λ turned is.
     let some : 0 < length c.args.extents.now = search rules in
     let source = FirstFits-at _ _ _ some c.requires.source_fits in
     let target = FirstFits-at _ _ _ some c.requires.target_fits in
-    let read = c.first_block-from.ensures.block _ c.requires.source_len in
-    let write = c.first_block-to.ensures.block _ c.requires.target_len in
+    let read = c.first_block-first.ensures.block _ c.requires.source_len in
+    let write = c.first_block-target_first.ensures.block _ c.requires.target_len in
     let row = c.loop-row.row in
-    let sb = c.first_block-from.result.1 in
-    let f = get_or c.args.source_start.now 0 0 in
-    let inner = position_count (slice_range c.args.source_shape.now 1 (length c.args.source_shape.now)) in
-    let r = c.first_block-from.result.0 + row * sb in
-    let first : r ≡ (f + row) * sb = rw c.first_block-from.ensures.offset (omega arith) in
+    let sb = c.first_block-first.result.1 in
+    let f = get_or c.args.from.start.now 0 0 in
+    let inner = position_count (slice_range c.args.from.shape.now 1 (length c.args.from.shape.now)) in
+    let r = c.first_block-first.result.0 + row * sb in
+    let first : r ≡ (f + row) * sb = rw c.first_block-first.ensures.offset (omega arith) in
     let begin : r ≡ (f + row) * inner * N = first ∙ ap (λ x. (f + row) * x) read ∙ sym (mul_assoc (f + row) inner N) in
     let source_room : r + sb ≤ length c.args.source.now = omega (arith, block_order row _ sb c.loop-row-test.true) in
     let part = turned_part N ((f + row) * inner) r sb c.args.source.now turned begin source_room is in
-    let room : c.first_block-to.result.0 + row * c.first_block-to.result.1 + c.first_block-to.result.1 ≤ length c.loop-row.target =
-    omega (arith, block_order row _ c.first_block-to.result.1 c.loop-row-test.true) in
+    let room : c.first_block-target_first.result.0 + row * c.first_block-target_first.result.1 + c.first_block-target_first.result.1 ≤ length c.loop-row.target =
+    omega (arith, block_order row _ c.first_block-target_first.result.1 c.loop-row-test.true) in
     BoxCopied-step _ _ _ _ _ _ _ _ _ _ _ _ _ _ _ _ _ source target read write
-    first (rw c.first_block-to.ensures.offset (omega arith))
+    first (rw c.first_block-target_first.ensures.offset (omega arith))
     (omega arith) room (c.turn_rows.auto.target ∙ length_part _ _ _ room) (c.loop-row.invariant turned is) (c.turn_rows.ensures (slice_range turned r (r + sb)) part)

@@ -6,4 +6,4 @@ use Rattle.zarrs_codec_chain.proofs.bytes_into.turn_plane.Given as goal
 abbrev pub invariant-loop-row : goal.invariant-loop-row
 invariant-loop-row g l =
     (turned : List ℕ) → IsTurned g.row.N l.source turned
-    → BoxCopied g.row.N l.source_shape l.source_start l.target_shape l.target_start (l.row ∷ slice_range l.extents 1 (length l.extents)) turned l.initial.target l.target
+    → BoxCopied g.row.N l.from.shape.now l.from.start.now l.to.shape.now l.to.start.now (l.row ∷ slice_range l.extents 1 (length l.extents)) turned l.initial.target l.target
