@@ -28,7 +28,6 @@ pub use options::{
     CodecMetadataOptions, CodecOptions, CodecSpecificOptions, ShardingCodecOptions,
     SubchunkWriteOrder,
 };
-pub use shard::{common_part, seen_from_corner};
 pub use shard_part::{ShardPart, Share, moved_to};
 pub use stored::Stored;
 pub use traits::ChainTraits;

@@ -8,7 +8,7 @@ use std::alloc::{AllocError, Global};
 use zarrs_subset::ArraySubset;
 
 /// The positions that both boxes have.
-pub fn common_part(
+pub(crate) fn common_part(
     alloc: Global,
     part: &ArraySubset,
     subset: &ArraySubset,
@@ -23,7 +23,7 @@ pub fn common_part(
 }
 
 /// The box as it is seen from a corner before it.
-pub fn seen_from_corner(
+pub(crate) fn seen_from_corner(
     alloc: Global,
     shared: &ArraySubset,
     corner: &[u64],

@@ -1,13 +1,13 @@
 -- Compactions that are refused.
-use Rattle.std.proofs.Common.{◌≡◌, ℕ, List, length, Option, Some, None, refl, sym, ◌∙◌, ap, subst, inl, inr, arith}
+use Rattle.std.proofs.Common.{◌≡◌, ℕ, List, length, Some, None, refl, sym, ◌∙◌, ap, subst, inl, inr, arith}
 use Rattle.std.specs.FinMap as map
 use Rattle.zarrs_storage.specs.Store.{StoreState}
 use Rattle.zarrs_engine_calls.specs.Layout.{Layout}
 use Rattle.zarrs_engine_calls.specs.Content.{value_at}
 use Rattle.zarrs_engine_calls.specs.Compactions.{HasCompaction, RefusesCompactionOf, compacted_bytes, compaction_refusal}
-use Rattle.zarrs_engine_calls.specs.Refusals.{Refusal, RefusesBy, key_refusal, length_refusal}
+use Rattle.zarrs_engine_calls.specs.Refusals.{Refusal, RefusesBy, key_refusal}
 use Rattle.zarrs_engine_calls.specs.Step.{RefusesCompactChunk}
-use Rattle.zarrs_engine_calls.proofs.RefusalLemmas.{makes_none, refused_first, refused_second, second_refusal}
+use Rattle.zarrs_engine_calls.proofs.RefusalLemmas.{makes_none, refused_first, refused_second}
 use Rattle.zarrs_engine_layout.specs.Steps.{RefusesPut, RefusesValue}
 use Rattle.zarrs_engine_layout.proofs.Chunks.{right_length}
 use Rattle.zarrs_engine.proofs.Encoded.{key_said}

@@ -347,7 +347,7 @@ module _ (layout : Layout) (lawful : IsLawful layout) (index : List ℕ) (has : 
   pub region_empty : SomeIndex part.shape (λ k. slice_index part.shape k ≡ 0) → (held : ArrayData) → ReadsOneMore layout region index state held held
   region_empty none held =
       let some = subst (λ s. SomeIndex s (λ k. slice_index s k ≡ 0)) same_shape none in
-      read_apart layout lawful region index state has held (empty_apart region (box_at layout.grid index) is.long some) is.proper
+      read_apart layout lawful region index state has held (empty_apart region (box_at layout.grid index) is.long some)
 
   pub region_absent : value_at state (layout.key index) ≡ None → (held : ArrayData) → ReadsOneMore layout region index state held held
   region_absent absent held = read_absent layout lawful region index state has held absent

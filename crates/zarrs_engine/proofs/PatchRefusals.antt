@@ -1,5 +1,5 @@
 -- Why a part of a chunk is not written by itself.
-use Rattle.std.proofs.Common.{◌≡◌, ℕ, Bool, true, cond, List, [], ◌∷◌, Option, Some, None, refl, sym, ap, subst, ◌∙◌, inl, inr, arith}
+use Rattle.std.proofs.Common.{◌≡◌, ℕ, Bool, cond, List, [], ◌∷◌, Option, Some, None, refl, sym, ap, subst, ◌∙◌, inl, inr, arith}
 use Rattle.std.proofs.lemmas.Bool.{cases_Bool}
 use Rattle.zarrs_subset.specs.Regions.{Box, overlap_of}
 use Rattle.zarrs_subset.specs.Refusals.{RefusesLength}

@@ -1,5 +1,5 @@
 -- Reads of regions, one chunk after another.
-use Rattle.std.proofs.Common.{◌≡◌, ◌≢◌, ◌<◌, ◌≤◌, ◌||◌, ◌&&◌, ℕ, Bool, true, false, cond, List, [], ◌∷◌, ◌++◌, length, replicate, slice_get, slice_index}
+use Rattle.std.proofs.Common.{◌≡◌, ◌≢◌, ◌<◌, ◌≤◌, ◌+◌, ◌-◌, ◌||◌, ◌&&◌, ℕ, suc, Bool, true, false, cond, List, [], ◌∷◌, ◌++◌, length, replicate, slice_get, slice_index}
 use Rattle.std.proofs.Common.{get_or, Option, Some, None, IfNone, Result, Ok, Err, Contains, refl, sym, ◌∙◌, ap, subst, inl, inr, arith}
 use Rattle.std.specs.List.{list_any}
 use Rattle.std.specs.Str.{bytes_eq}
@@ -7,8 +7,8 @@ use Rattle.std.proofs.lemmas.Bool.{cases_Bool, false≢true}
 use Rattle.std.proofs.lemmas.List.Elements.{Contains-push_cases}
 use Rattle.std.proofs.lemmas.List.Folds.{list_any-append, list_any_at}
 use Rattle.std.proofs.lemmas.Slice.Eq.{bytes_eq-Decides}
-use Rattle.zarrs_subset.specs.Boxes.{position_count, offset_from, place}
-use Rattle.zarrs_subset.specs.Regions.{Box, Holds, IsLong, cell_in, in_box, place_in}
+use Rattle.zarrs_subset.specs.Boxes.{position_count, offset_from, place, zip_with}
+use Rattle.zarrs_subset.specs.Regions.{Box, Holds, IsLong, cell_in, in_box, overlap_of, place_in, seen_from, shifted_box}
 use Rattle.zarrs_subset.proofs.Bytes.{holds_along, place_in_below}
 use Rattle.zarrs_subset.proofs.Overlaps.{in_box-overlap}
 use Rattle.zarrs_subset.proofs.Positions.{offset_from-in}
@@ -36,10 +36,32 @@ use Rattle.zarrs_engine_calls.specs.declared.error.ArrayError.{ArrayError}
 use Rattle.zarrs_engine_calls.proofs.Contents.{absent_fill, fill_at, in_chunk, only_member, reads_decoded, replicated, same_or_not}
 use Rattle.zarrs_engine_calls.proofs.Shapes.{known_decodes}
 use Rattle.zarrs_engine_layout.specs.Covers.{CoverRegion}
-use Rattle.zarrs_engine_layout.specs.Shared.{AreApart, AreShared}
+use Rattle.zarrs_engine_layout.specs.Shared.{AreApart, AreShared, IsSharedIn}
+use Rattle.zarrs_engine_layout.proofs.OneChunk.{first_held}
 use Rattle.zarrs_engine_layout.proofs.RegionRefusals.{region_read, region_refused_then}
 use Rattle.zarrs_engine.specs.Outcomes.{Reads}
 use Rattle.zarrs_engine.specs.RegionReads.{DecodesStored, HasRead, ReadsOneMore, ReadsOver}
+
+-- what was seen from a corner is moved back there
+moved_back : (S R : List ℕ) → length S ≡ length R → ((k : ℕ) → k < length R → slice_index R k ≤ slice_index S k)
+    → zip_with (λ s t. s + t) (zip_with (λ s t. s - t) S R) R ≡ S
+moved_back [] [] same below = refl
+moved_back [] (r ∷ R) same below = absurd (omega arith)
+moved_back (s ∷ S) [] same below = absurd (omega arith)
+moved_back (s ∷ S) (r ∷ R) same below =
+    let low : r ≤ s = below 0 (omega arith) in
+    let first : s - r + r ≡ s = omega arith in
+    let rest = moved_back S R (omega arith) (λ k lt. below (suc k) (omega arith)) in
+    ap (λ x. x ∷ zip_with (λ s t. s + t) (zip_with (λ s t. s - t) S R) R) first ∙ ap (λ l. s ∷ l) rest
+
+-- what a region and a chunk share, as it lies in the region itself
+pub own_shared : (region chunk made : Box) → IsSharedIn region region chunk made → made ≡ overlap_of region chunk
+own_shared region chunk made is =
+    let over = overlap_of region chunk in
+    let lies = is.shared.in_region in
+    let again : shifted_box (seen_from over region.start) region.start ≡ over =
+    ap (λ (start : List ℕ). record { start = start; shape = over.shape }) (moved_back over.start region.start lies.same_length lies.starts) in
+    is.made_is ∙ again
 
 or_all : (b : Bool) → b || true ≡ true
 or_all true = refl
@@ -183,13 +205,14 @@ module _ (layout : Layout) (lawful : IsLawful layout) where
         chunks r
 
     -- a chunk without a position of the region was passed
-    pub read_apart : (held : ArrayData) → AreApart region chunk → IsPart layout region index → ReadsOneMore layout region index state held held
-    read_apart held apart part = λ chunks r.
+    pub read_apart : (held : ArrayData) → AreApart region chunk → ReadsOneMore layout region index state held held
+    read_apart held apart = λ chunks r.
+        let corner = first_held layout.grid lawful.grid index has in
         read_piece held held r.given r.are_cells
         (λ given is. ap (λ (cs : List Cell). length cs) (same_cells held r.given given r.are_cells is))
         (λ position cell holds inside known. absurd (false≢true (sym (apart position holds) ∙ inside)))
         (λ given is position holds out. ap (λ (cs : List Cell). cell_in region cs position) (same_cells held r.given given r.are_cells is))
-        (λ covers broken. part covers)
+        (λ covers broken. absurd (false≢true (sym (apart chunk.start (covers chunk.start corner)) ∙ corner)))
         chunks r
 
     -- a chunk that is present was read: its cells were put into the data

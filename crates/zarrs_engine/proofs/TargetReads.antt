@@ -1,6 +1,5 @@
 -- Reads of regions into data over a larger box, one chunk after another.
 use Rattle.std.proofs.Common.{◌≡◌, ◌||◌, ◌&&◌, ℕ, ◌+◌, ◌<◌, Bool, true, false, cond, List, [], ◌∷◌, ◌++◌, length, map, take, slice_get, Option, None, Some, Contains, refl, sym, ap, ◌∙◌, subst, inl, inr, arith}
-use Rattle.std.specs.Prelude.{slice_index}
 use Rattle.std.specs.List.{list_any, range_with_len}
 use Rattle.std.specs.Str.{bytes_eq}
 use Rattle.std.proofs.lemmas.Bool.{cases_Bool, false≢true}
@@ -11,11 +10,11 @@ use Rattle.std.proofs.lemmas.List.Sums.{AllPass-from_list_all}
 use Rattle.std.proofs.lemmas.Option.{get_or_from_slice_get, slice_get-get_or, slice_get_within}
 use Rattle.zarrs_subset.specs.Boxes.{offset_by, offset_from, position_count}
 use Rattle.zarrs_subset.specs.Regions.{Box, Holds, IsLong, in_box, place_in, seen_from, LiesInBox}
-use Rattle.zarrs_subset.proofs.Bytes.{along_holds, holds_along, place_in_below}
+use Rattle.zarrs_subset.proofs.Bytes.{holds_along, place_in_below}
 use Rattle.zarrs_subset.proofs.Inside.{holds_inside}
-use Rattle.zarrs_chunk_grid.specs.Grids.{IsGrid, Grid, box_at, extent_along, has_box, index_at, is_covered}
-use Rattle.zarrs_chunk_grid.proofs.Chunks.{box_dimensions, box_is_there, box_long}
-use Rattle.zarrs_chunk_grid.proofs.MetChunks.{at_dimension}
+use Rattle.zarrs_chunk_grid.specs.Grids.{box_at, has_box, index_at, is_covered}
+use Rattle.zarrs_chunk_grid.proofs.Chunks.{box_long}
+use Rattle.zarrs_engine_layout.proofs.OneChunk.{first_held}
 use Rattle.zarrs_storage.specs.Store.{StoreState}
 use Rattle.zarrs_data_type.specs.Kind.{fixed_size}
 use Rattle.zarrs_data_type.specs.Cell.{Cell, are_values, is_value, none}
@@ -125,24 +124,6 @@ module _ (layout : Layout) (lawful : IsLawful layout) (state : StoreState) where
 
 -- ---- one chunk after another
 
--- a chunk has a position: its corner
-module _ (grid : Grid) (lawful : IsGrid grid) (index : List ℕ) (has : has_box grid index ≡ true) where
-  some_extent : (k : ℕ) → k < grid.dimensions → 0 < slice_index (box_at grid index).shape k
-  unfolding box_at
-  some_extent k below =
-      let there = box_is_there grid index has in
-      let rises = (lawful k below).ascends (slice_index index k) (there.numbered k below) in
-      let at = at_dimension grid.dimensions (extent_along grid index) k below in
-      omega arith
-
-  corner_held : Holds (box_at grid index) (box_at grid index).start
-  corner_held =
-      along_holds (box_at grid index) (box_at grid index).start (box_long grid index) (record {
-        same_length = refl;
-        from = λ k below. omega arith;
-        below = λ k below. let e = some_extent k (omega (arith, box_dimensions grid index)) in omega arith;
-      })
-
 or_second : (b c : Bool) → b ≡ false → b || c ≡ true → c ≡ true
 or_second true c out is = absurd (false≢true (sym out))
 or_second false c out is = is
@@ -193,7 +174,7 @@ module _ (layout : Layout) (lawful : IsLawful layout) (region : Box) (state : St
         each = λ position holds among.
             r.read.each position holds (or_none (is_in_chunks layout chunks position) (in_box chunk_box position) (apart position holds) (sym (in_more layout lawful chunks index has position) ∙ among));
         whole = sound_more chunks held r.read (λ covers.
-            let corner = corner_held layout.grid lawful.grid index has in
+            let corner = first_held layout.grid lawful.grid index has in
             absurd (false≢true (sym (apart chunk_box.start (covers chunk_box.start corner)) ∙ corner)));
       };
       rest = λ is position holds out. r.rest is position holds (not_among chunks position out).0;

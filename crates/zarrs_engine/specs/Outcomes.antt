@@ -34,7 +34,8 @@ use Rattle.zarrs_engine_calls.specs.Laws.{EachDecodes}
 use Rattle.zarrs_engine_calls.specs.Layout.{ArrayState, Layout}
 use Rattle.zarrs_engine_calls.specs.declared.call.Call.{Call}
 use Rattle.zarrs_engine_calls.specs.declared.call.Reply.{Reply}
-use Rattle.zarrs_engine_calls.specs.Patches.{EncodesPart, PatchRun, PatchStep, PatchesPart, PatchesRegion, RefusesEncodePart, RefusesPatchPart, RefusesPatchRegion, writes_parts}
+use Rattle.zarrs_engine_calls.specs.Patches.{EncodesPart, PatchRun, PatchStep, PatchesPart, PatchesRegion, writes_parts}
+use Rattle.zarrs_engine_calls.specs.Patches.{RefusesEncodePart, RefusesPatchPart, RefusesPatchRegion}
 use Rattle.zarrs_engine_calls.specs.declared.error.ArrayError.{ArrayError}
 use Rattle.zarrs_engine.specs.Engine.{layout_of, store_of, state_of, KeepsLayout, KeepsOthers}
 use Rattle.zarrs_engine.specs.declared.engine.Engine.{Engine}
@@ -134,10 +135,12 @@ module _ {S G K C : Type 0} {g : GridMeaning G} {k : KeyMeaning K} {c : ChainMea
       WritesChunks refusal_of_storage state false (ErasesChunks (layout_of old) range) (RefusesEraseChunks (layout_of old) range) old
 
   -- a change of the array's shape: it is done, and nothing but the store and the shape changed; or it is refused, and the shape stays
-  pub record ResizesOrRefuses (state : S → StoreState) (keep : Bool) (wanted : List ℕ) (old new : Engine S G K C g k c) (result : Result (Unit {0}) ArrayError) : Type 0 where
+  pub record ResizesOrRefuses (state : S → StoreState) (keep : Bool) (wanted : List ℕ) (old new : Engine S G K C g k c)
+      (result : Result (Unit {0}) ArrayError) : Type 0 where
     pub done : OnOk result (ResizesArray (layout_of old) keep (state_of state old).shape wanted (store_of state old) (store_of state new))
     pub shape : OnOk result ((state_of state new).shape ≡ wanted)
-    pub refused : IfErr result (λ e. RefusesResize (layout_of old) keep (state_of state old).shape wanted (refusal_of e) (store_of state old) (store_of state new))
+    pub refused : IfErr result (λ e. RefusesResize (layout_of old) keep (state_of state old).shape wanted (refusal_of e) (store_of state old)
+        (store_of state new))
     pub canonical : KeepsCanon (layout_of old) keep (store_of state old) (store_of state new)
     pub layout : layout_of new ≡ layout_of old
     pub others : KeepsOthers old new
@@ -249,7 +252,8 @@ module _ {S G K C : Type 0} {g : GridMeaning G} {k : KeyMeaning K} {c : ChainMea
 
   -- the calls were made in turn, and got these replies; or none was made, since the list of replies is out of memory. Nothing but the
   -- store and the array's shape changed
-  pub record RepliesInTurn (state : S → StoreState) (options : CodecOptions) (calls : List Call) (old new : Engine S G K C g k c) (result : Result (Vec Reply Global) AllocError) : Type 0 where
+  pub record RepliesInTurn (state : S → StoreState) (options : CodecOptions) (calls : List Call) (old new : Engine S G K C g k c)
+      (result : Result (Vec Reply Global) AllocError) : Type 0 where
     pub run : IfOk result (λ replies. RunsAs (layout_of old) options calls replies.items (state_of state old) (state_of state new))
     pub untouched : OnErr result (new ≡ old)
     pub layout : layout_of new ≡ layout_of old

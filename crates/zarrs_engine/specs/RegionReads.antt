@@ -1,5 +1,5 @@
 -- What a read of a region has after some of its chunks.
-use Rattle.std.specs.Prelude.{◌≡◌, ℕ, ◌++◌, List, [], ◌∷◌, length, None, Some, Contains, Result, IfErr, IfOk, OnOk, if◌then◌else◌}
+use Rattle.std.specs.Prelude.{◌≡◌, ℕ, ◌++◌, List, [], ◌∷◌, length, None, Some, Contains, Option, Result, IfErr, IfNone, IfOk, IfSome, OnOk, if◌then◌else◌}
 use Rattle.zarrs_chunk_grid.specs.Grids.{box_at}
 use Rattle.zarrs_subset.specs.Boxes.{position_count}
 use Rattle.zarrs_subset.specs.Regions.{Box, Holds, IsLong, cell_in, seen_from, LiesInBox}
@@ -7,7 +7,8 @@ use Rattle.zarrs_storage.specs.Store.{StoreState}
 use Rattle.zarrs_data_type.specs.Cell.{Cell}
 use Rattle.zarrs_data_type_bytes.specs.declared.array_bytes.ArrayBytes.{ArrayBytes}
 use Rattle.zarrs_data_type.specs.ArrayData.{ArrayData, data_of}
-use Rattle.zarrs_data_type.specs.Cells.{cells}
+use Rattle.zarrs_data_type.specs.Cells.{cells, HasCells}
+use Rattle.zarrs_data_type.specs.Parts.{TakesCells}
 use Rattle.zarrs_data_type.specs.RegionData.{region_data}
 use Rattle.zarrs_data_type_region.specs.declared.region_cells.RegionCells.{RegionCells}
 use Rattle.zarrs_engine_calls.specs.Layout.{Layout}
@@ -38,6 +39,19 @@ pub record HasRead (layout : Layout) (region : Box) (chunks : List (List ℕ)) (
 abbrev pub ReadsOneMore : Layout → Box → List ℕ → StoreState → ArrayData → ArrayData → Type 0
 ReadsOneMore layout region index state old new =
     (chunks : List (List ℕ)) → HasRead layout region chunks state old → HasRead layout region (chunks ++ index ∷ []) state new
+
+-- the data is the cells that one chunk has of the region, which lie in this box: whatever takes them has read the chunk
+pub record IsShare (layout : Layout) (region : Box) (index : List ℕ) (state : StoreState) (own : Box) (held : ArrayData) : Type 0 where
+  pub dimensions : length region.start ≡ length own.start
+  pub has : HasCells layout.kind held (position_count own.shape)
+  pub reads : (old new : ArrayData) → TakesCells layout.kind region own held old new → ReadsOneMore layout region index state old new
+
+-- the cells that one chunk has of the region were read, or it has none that are not fill, or the read is refused
+pub record ReadsShare (layout : Layout) (region : Box) (index : List ℕ) (state : StoreState) (own : Box)
+    (result : Result (Option ArrayBytes) ArrayError) : Type 0 where
+  pub none : IfOk result (λ found. IfNone found ((held : ArrayData) → ReadsOneMore layout region index state held held))
+  pub some : IfOk result (λ found. IfSome found (λ made. IsShare layout region index state own (data_of made)))
+  pub refused : IfErr result (λ e. RefusesSomeChunk layout region (index ∷ []) state (refusal_of e))
 
 -- the cells of a region took those that one chunk has of it, or the read is refused
 pub record ReadsChunkOf (layout : Layout) (region : Box) (index : List ℕ) (state : StoreState) (held : ArrayData)

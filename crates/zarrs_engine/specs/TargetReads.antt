@@ -46,14 +46,16 @@ HasFillElsewhere layout region chunks box own held =
     → cell_at layout.kind held (place_from box own.start region position) ≡ layout.fill
 
 -- these chunks were read so far, and the rest of a box that was filled is still fill
-pub record HasReadSoFar (layout : Layout) (filled : Bool) (region : Box) (chunks : List (List ℕ)) (state : StoreState) (box own : Box) (held : ArrayData) : Type 0 where
+pub record HasReadSoFar (layout : Layout) (filled : Bool) (region : Box) (chunks : List (List ℕ)) (state : StoreState) (box own : Box)
+    (held : ArrayData) : Type 0 where
   pub read : HasReadInto layout region chunks state box own held
   pub rest : filled ≡ true → HasFillElsewhere layout region chunks box own held
 
 -- one more chunk was read
 abbrev pub ReadsOneMoreInto : Layout → Bool → Box → List ℕ → StoreState → (box own : Box) → ArrayData → ArrayData → Type 0
 ReadsOneMoreInto layout filled region index state box own old new =
-    (chunks : List (List ℕ)) → HasReadSoFar layout filled region chunks state box own old → HasReadSoFar layout filled region (chunks ++ index ∷ []) state box own new
+    (chunks : List (List ℕ)) → HasReadSoFar layout filled region chunks state box own old
+    → HasReadSoFar layout filled region (chunks ++ index ∷ []) state box own new
 
 -- the target takes the cells of the region: it has the cells of the array's type, in a box of the region's shape
 pub record TakesRegion (layout : Layout) (region : Box) (t : ArrayBytesDecodeIntoTarget) : Type 0 where

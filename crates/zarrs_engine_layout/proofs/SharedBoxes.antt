@@ -42,10 +42,6 @@ module _ (region chunk : Box) (long : IsLong region) (chunk_long : IsLong chunk)
       ≡ min (slice_index region.start k + slice_index region.shape k) (slice_index chunk.start k + slice_index chunk.shape k) - max (slice_index region.start k) (slice_index chunk.start k)
   shape_at k lt = overlap_extents-at region.start region.shape chunk.start chunk.shape k long chunk_long same lt
 
-  -- the corner of the chunk lies before what is shared
-  pub corner_before : (k : ℕ) → k < length shared.start → slice_index chunk.start k ≤ slice_index shared.start k
-  corner_before k lt = omega (arith, start_at k (omega (arith, start_len)))
-
   module _ (full : AllSome shared.shape) where
     some_at : (k : ℕ) → k < length region.start → 0 < slice_index shared.shape k
     some_at k lt = not_zero (slice_index shared.shape k) (full k (omega (arith, shape_len)))

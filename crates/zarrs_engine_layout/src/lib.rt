@@ -26,4 +26,4 @@ pub use array_layout::{ArrayLayout, Chunk, invalid_indices};
 pub use cut_walk::CutWalk;
 pub use extents::ChunkExtents;
 pub use resizing::beyond;
-pub use shared::{ChunkShare, Shared, covers_chunk, part_in_chunk, shared_positions};
+pub use shared::{ChunkShare, covers_chunk, part_in_chunk};

@@ -7,10 +7,10 @@ use zarrs_codec_chain::ChainTraits;
 use zarrs_codec_leaf::StoredValue;
 use zarrs_data_type::{ArrayBytes, CellType, RegionCells};
 use zarrs_engine_calls::ArrayError;
-use zarrs_engine_layout::{part_in_chunk, shared_positions};
+use zarrs_engine_layout::{ChunkShare, covers_chunk, part_in_chunk};
 use zarrs_keys::ChunkKeyEncodingTraits;
 use zarrs_storage::ReadableStorageTraits;
-use zarrs_subset::{ArraySubset, lies_in_box};
+use zarrs_subset::ArraySubset;
 
 impl<
     S: ReadableStorageTraits,
@@ -21,7 +21,7 @@ impl<
     ghost use Rattle.std.specs.Prelude.{◌≡◌, ◌<◌, true, false, [], ◌∷◌, Some, None, IfOk, IfErr, IfSome};
     ghost use Rattle.std.specs.Prelude.{IfNone, length};
     ghost use Rattle.zarrs_subset.specs.Boxes.{position_count};
-    ghost use Rattle.zarrs_subset.specs.Regions.{Box, LiesInShape, box_of, positions};
+    ghost use Rattle.zarrs_subset.specs.Regions.{Box, LiesInBox, LiesInShape, box_of, positions};
     ghost use Rattle.zarrs_chunk_grid.specs.Grids.{box_at, has_box};
     ghost use Rattle.zarrs_data_type.specs.ArrayData.{data_of};
     ghost use Rattle.zarrs_data_type.specs.Cells.{HasCells};
@@ -29,7 +29,7 @@ impl<
     ghost use Rattle.zarrs_engine_calls.specs.ArgumentRefusals.{size_refusal};
     ghost use Rattle.zarrs_engine_calls.specs.ChunkBoxes.{is_empty, chunk_part};
     ghost use Rattle.zarrs_engine_calls.specs.Content.{value_at};
-    ghost use Rattle.zarrs_engine_calls.specs.Reach.{MayDecodePart, MayReadPart};
+    ghost use Rattle.zarrs_engine_calls.specs.Reach.{MayAskChunk, MayDecodePart, MayReadPart};
     ghost use Rattle.zarrs_engine_calls.specs.Refusals.{refusal_of};
     ghost use Rattle.zarrs_engine_calls.specs.StateRefusals.{IsPart, RefusesSomeChunk};
     ghost use Rattle.zarrs_engine.specs.Engine.{layout_of, store_of};
@@ -40,7 +40,7 @@ impl<
     ghost use Rattle.zarrs_engine_layout.specs.Covers.{CoverRegion};
     ghost use Rattle.zarrs_engine_layout.specs.Steps.{IsFill};
     ghost use Rattle.zarrs_engine.specs.RegionReads.{DecodesStored, HasRead, IsRegionOf, MayReadOver};
-    ghost use Rattle.zarrs_engine.specs.RegionReads.{ReadsChunkOf, ReadsOver};
+    ghost use Rattle.zarrs_engine.specs.RegionReads.{ReadsChunkOf, ReadsOver, ReadsShare};
 
     /// Returns the cells of a region if each is the fill value's.
     pub(super) fn region_of_fill(
@@ -95,14 +95,92 @@ impl<
         Ok(Some(made))
     }
 
-    /// Returns the cells of a region with those that one chunk has of it. An absent chunk changes nothing. Of a chunk
-    /// that the region does not cover, no other bytes are read than those that its part needs.
-    pub(super) fn with_chunk(
+    /// Returns the cells that one chunk has of a region, or `None` if it is absent. Then `share.own` is where they lie.
+    fn shared_cells(
+        &self,
+        alloc: Global,
+        region: &ArraySubset,
+        chunk_indices: &[u64],
+        share: &mut ChunkShare,
+    ) -> Result<Option<ArrayBytes<'static>>, ArrayError>
+        requires boxed { has_box (layout_of self.now).grid chunk_indices.now ≡ true }
+        requires dimensions { length (box_of region.now).start
+            ≡ (layout_of self.now).grid.dimensions }
+        requires size { size_refusal (layout_of self.now) (box_of region.now).shape ≡ None }
+        requires ask { MayReadPart (layout_of self.now) (box_of region.now) chunk_indices.now
+            (store_of S.state self.now) }
+        ensures { ReadsShare (layout_of self.now) (box_of region.now) chunk_indices.now
+            (store_of S.state self.now) (box_of share.new.own) result }
+    {
+        if covers_chunk(&self.layout.grid, region, chunk_indices) {
+            return self.shared_chunk(alloc, region, chunk_indices, share);
+        }
+        self.shared_part(alloc, region, chunk_indices, share)
+    }
+
+    /// The same, of a chunk that the region covers.
+    fn shared_chunk(
+        &self,
+        alloc: Global,
+        region: &ArraySubset,
+        chunk_indices: &[u64],
+        share: &mut ChunkShare,
+    ) -> Result<Option<ArrayBytes<'static>>, ArrayError>
+        requires boxed { has_box (layout_of self.now).grid chunk_indices.now ≡ true }
+        requires dimensions { length (box_of region.now).start
+            ≡ (layout_of self.now).grid.dimensions }
+        requires covers { LiesInBox (box_at (layout_of self.now).grid chunk_indices.now)
+            (box_of region.now) }
+        requires ask { MayAskChunk (layout_of self.now) chunk_indices.now
+            (store_of S.state self.now) }
+        ensures { ReadsShare (layout_of self.now) (box_of region.now) chunk_indices.now
+            (store_of S.state self.now) (box_of share.new.own) result }
+    {
+        let Some(encoded) = self.stored_bytes(alloc, chunk_indices)? else {
+            return Ok(None);
+        };
+        let part = self.layout.decode(alloc, chunk_indices, &encoded)?;
+        if !share.find(alloc, &self.layout.grid, region, chunk_indices, region)? {
+            return Ok(None);
+        }
+        Ok(Some(part.into_owned(alloc)?))
+    }
+
+    /// The same, of a chunk of which the region covers a part alone. No other bytes of the chunk are read than those that
+    /// the part needs.
+    fn shared_part(
+        &self,
+        alloc: Global,
+        region: &ArraySubset,
+        chunk_indices: &[u64],
+        share: &mut ChunkShare,
+    ) -> Result<Option<ArrayBytes<'static>>, ArrayError>
+        requires boxed { has_box (layout_of self.now).grid chunk_indices.now ≡ true }
+        requires dimensions { length (box_of region.now).start
+            ≡ (layout_of self.now).grid.dimensions }
+        requires part { IsPart (layout_of self.now) (box_of region.now) chunk_indices.now }
+        requires size { size_refusal (layout_of self.now) (box_of region.now).shape ≡ None }
+        requires ask { MayDecodePart (layout_of self.now) (chunk_part (box_of region.now)
+            (box_at (layout_of self.now).grid chunk_indices.now)) chunk_indices.now
+            (store_of S.state self.now) }
+        ensures { ReadsShare (layout_of self.now) (box_of region.now) chunk_indices.now
+            (store_of S.state self.now) (box_of share.new.own) result }
+    {
+        let extents = self.layout.chunk_shape(alloc, chunk_indices)?;
+        if !share.find(alloc, &self.layout.grid, region, chunk_indices, region)? {
+            return Ok(None);
+        }
+        self.part_of_chunk(alloc, chunk_indices, extents.as_slice(), &share.part)
+    }
+
+    /// Returns the cells of a region with those that one chunk has of it. An absent chunk changes nothing.
+    fn with_chunk(
         &self,
         alloc: Global,
         region: &ArraySubset,
         held: RegionCells,
         chunk_indices: &[u64],
+        share: &mut ChunkShare,
     ) -> Result<RegionCells, ArrayError>
         requires boxed { has_box (layout_of self.now).grid chunk_indices.now ≡ true }
         requires dimensions { length (box_of region.now).start
@@ -115,24 +193,11 @@ impl<
         ensures { ReadsChunkOf (layout_of self.now) (box_of region.now) chunk_indices.now
             (store_of S.state self.now) (region_data held) result }
     {
-        let chunk = self.layout.chunk_box(alloc, chunk_indices)?;
+        let Some(part) = self.shared_cells(alloc, region, chunk_indices, share)? else {
+            return Ok(held);
+        };
         let data_type = &self.layout.cell_type.data_type;
-        if lies_in_box(&chunk, region) {
-            let Some(encoded) = self.stored_bytes(alloc, chunk_indices)? else {
-                return Ok(held);
-            };
-            let part = self.layout.decode(alloc, chunk_indices, &encoded)?;
-            let made = held.with_part(alloc, data_type, region, &part, &chunk)?;
-            return Ok(made);
-        }
-        let Some(shared) = shared_positions(alloc, region, &chunk)? else {
-            return Ok(held);
-        };
-        let found = self.part_of_chunk(alloc, chunk_indices, chunk.shape(), &shared.part)?;
-        let Some(cut) = found else {
-            return Ok(held);
-        };
-        let made = held.with_part(alloc, data_type, region, &cut, &shared.region)?;
+        let made = held.with_part(alloc, data_type, region, &part, &share.own)?;
         Ok(made)
     }
 
@@ -159,8 +224,9 @@ impl<
             return Ok(held);
         };
         let mut made = held;
+        let mut share = ChunkShare::new(alloc);
         loop {
-            made = self.with_chunk(alloc, region, made, walk.current())?;
+            made = self.with_chunk(alloc, region, made, walk.current(), &mut share)?;
             if !walk.advance() {
                 return Ok(made);
             }
