@@ -206,7 +206,7 @@ impl OptionalCodec {
         let DecodedMask { flags, set } = self.mask.decode_mask(alloc, mask, inner, count)?;
         let present = self.data.decode_if_any(alloc, body, inner, set)?;
         let made = ArrayBytes::from_present(alloc, inner, flags, &present)?;
-        Ok(made.into_owned(alloc)?)
+        Ok(made)
     }
 }
 

@@ -62,7 +62,6 @@ optional::OptionalCodec::decode-returns-clause-cells t c =
     let parts : mask_and_data b ≡ Some (c.in-Some-mask_and_data.mask.now, c.in-Some-mask_and_data.body.now) =
     sym c.mask_and_data.ensures ∙ ap (option_map (λ p. (p.0.now, p.1.now))) c.in-Some-mask_and_data.is in
     let read = subst (λ x. cells u (data_of c.in_ok-present.present) ≡ (if_any (cells_meaning x)).decoded u set c.in-Some-mask_and_data.body.now) c.deref.ensures c.in_ok-present.ensures.cells in
-    ap (cells k) c.in_ok-into_owned.ensures
-    ∙ (decoded-optional (mask_meaning (mask_codec_of codec)) d k u is n b c.in-Some-mask_and_data.mask.now c.in-Some-mask_and_data.body.now parts flags set
+    (decoded-optional (mask_meaning (mask_codec_of codec)) d k u is n b c.in-Some-mask_and_data.mask.now c.in-Some-mask_and_data.body.now parts flags set
     c.in_ok-flags.ensures.read c.in_ok-flags.ensures.set (data_of c.in_ok-present.present) read c.in_ok-present.ensures.some
     (data_of c.in_ok-made.made) c.in_ok-made.ensures).0

@@ -23,7 +23,7 @@ impl<'a> ArrayBytes<'a> {
         inner: &DataType,
         mask: Vec<u8>,
         present: &ArrayBytes<'_>,
-    ) -> Result<ArrayBytes<'static>, AllocError>
+    ) -> Result<ArrayBytes<'a>, AllocError>
         requires flags { All (λ flag. flag < 2) mask.items }
         requires present { HasCells (kind inner.now) (data_of present.now)
             (count_by flag_set mask.items) }

@@ -98,12 +98,12 @@ fn spread_fixed(
 
 impl<'a> ArrayBytes<'a> {
     /// For each flag that is set the next of the cells; for another one any cell.
-    pub(super) fn spread(
+    pub(super) fn spread<'b>(
         &self,
         alloc: Global,
         data_type: &DataType,
         mask: &[u8],
-    ) -> Result<ArrayBytes<'static>, AllocError>
+    ) -> Result<ArrayBytes<'b>, AllocError>
         requires present { HasCells (kind data_type.now) (data_of self.now)
             (count_by flag_set mask.now) }
         requires size { length mask.now * cell_size (kind data_type.now) < 2 ^ 64 }
@@ -115,7 +115,8 @@ impl<'a> ArrayBytes<'a> {
             (ranks_set mask.now (length mask.now))) }
     {
         if self.fits(data_type, 0) {
-            return ArrayBytes::missing(alloc, data_type, mask.len());
+            let none = ArrayBytes::missing(alloc, data_type, mask.len())?;
+            return none.into_owned(alloc);
         }
         if let ArrayBytes::Fixed(cells) = self {
             let size = data_type.element_size().unwrap();
@@ -123,6 +124,7 @@ impl<'a> ArrayBytes<'a> {
             return Ok(ArrayBytes::Fixed(CowSlice::Owned(spread)));
         }
         let ranks = ranks_set(alloc, mask)?;
-        self.select(alloc, data_type, ranks.as_slice())
+        let selected = self.select(alloc, data_type, ranks.as_slice())?;
+        selected.into_owned(alloc)
     }
 }

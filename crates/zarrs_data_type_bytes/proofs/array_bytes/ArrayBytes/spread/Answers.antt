@@ -12,11 +12,16 @@ use Rattle.zarrs_data_type_bytes.proofs.Presence.{not_both, length-ranks}
 use Rattle.zarrs_data_type_bytes.proofs.Spread.{IsSelection-fixed, CanSelect-ranks}
 use Rattle.zarrs_data_type_bytes.proofs.array_bytes.ArrayBytes.spread.Goals as goal
 
-pub returns-then-fits-clause-cells : goal.returns-then-fits-clause-cells
-returns-then-fits-clause-cells c =
-    IfOk-weaker c.missing.result _ _
-    (λ made is n fit some_there. absurd (not_both c.args.data_type.now (data_of c.args.self.now) n (sym c.fits.ensures ∙ c.if-fits.true) fit some_there))
-    c.missing.ensures
+pub returns-then-fits : goal.returns-then-fits
+returns-then-fits c =
+    let k = kind c.args.data_type.now in
+    let mask = c.args.mask.now in
+    record {
+      kind = IfOk-weaker c.into_owned.result _ _ (λ made same. subst (λ d. fits k d (length mask) ≡ true) (sym same) c.in_ok-none.ensures) c.into_owned.ensures;
+      cells = IfOk-weaker c.into_owned.result _ _
+          (λ made same n fit some_there. absurd (not_both c.args.data_type.now (data_of c.args.self.now) n (sym c.fits.ensures ∙ c.if-fits.true) fit some_there))
+          c.into_owned.ensures;
+    }
 
 pub spread_fixed-requires-clause-cells : goal.spread_fixed-requires-clause-cells
 spread_fixed-requires-clause-cells c =
@@ -61,11 +66,12 @@ returns c =
     let d = data_of c.args.self.now in
     let mask = c.args.mask.now in
     let ranks : c.as_slice-2.result.now ≡ ranks_set mask (length mask) = c.as_slice-2.ensures.value ∙ c.in_ok-ranks.ensures in
+    let selected = c.in_ok-selected.ensures in
     record {
-      kind = IfOk-weaker c.select.result _ _
-          (λ made selected. subst (λ n. fits k (data_of made) n ≡ true) (ap length ranks ∙ length-ranks mask) selected.has_kind)
-          c.select.ensures;
-      cells = IfOk-weaker c.select.result _ _
-          (λ made selected n fit some_there. subst (λ l. IsSelection k (data_of made) d l) ranks selected)
-          c.select.ensures;
+      kind = IfOk-weaker c.into_owned-2.result _ _
+          (λ made same. subst (λ e. fits k e (length mask) ≡ true) (sym same) (subst (λ n. fits k (data_of c.in_ok-selected.selected) n ≡ true) (ap length ranks ∙ length-ranks mask) selected.has_kind))
+          c.into_owned-2.ensures;
+      cells = IfOk-weaker c.into_owned-2.result _ _
+          (λ made same n fit some_there. subst (λ e. IsSelection k e d (ranks_set mask (length mask))) (sym same) (subst (λ l. IsSelection k (data_of c.in_ok-selected.selected) d l) ranks selected))
+          c.into_owned-2.ensures;
     }
