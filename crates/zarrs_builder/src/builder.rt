@@ -10,9 +10,9 @@ use serde_json::{Map, Value};
 use std::alloc::{AllocError, Global};
 use zarrs_chunk_grid::{ChunkGrid, ChunkGridTraits};
 use zarrs_codec::{ArrayToArrayCodec, ArrayToBytesCodec, CodecSpecificOptions};
-use zarrs_data_type::{DataType, DataTypeFillValueError, FillValue, IntoField};
+use zarrs_data_type::IntoField;
 use zarrs_keys::ChunkKeyEncoding;
-use zarrs_metadata::{AdditionalFieldsV3, ChunkKeySeparator, DimensionName, FillValueMetadata};
+use zarrs_metadata::{AdditionalFieldsV3, ChunkKeySeparator, DimensionName};
 use zarrs_options::ArrayBuilderChunkGridMetadata;
 use zarrs_subset::ArrayShape;
 
@@ -94,11 +94,7 @@ impl ArrayBuilder {
     }
 }
 
-ghost use Rattle.std.specs.Prelude.{◌≡◌, Some, IfOk, IsSome};
-ghost use Rattle.zarrs_metadata_parts.specs.FillValue.{fill_data};
-ghost use Rattle.zarrs_data_type.specs.Cell.{fill_cell};
-ghost use Rattle.zarrs_data_type.specs.FillMetadata.{fill_written};
-ghost use Rattle.zarrs_data_type.specs.Kind.{kind};
+ghost use Rattle.std.specs.Prelude.{◌≡◌, Some, IfOk};
 ghost use Rattle.zarrs_chunk_grid.specs.GridView.{configuration_of};
 ghost use Rattle.zarrs_chunk_grid.specs.Metadata.{extension_of_grid};
 ghost use Rattle.zarrs_options.specs.Given.{grid_given};
@@ -109,20 +105,4 @@ fn grid_field(alloc: Global, grid: &ChunkGrid) -> Result<ArrayBuilderChunkGridMe
         ≡ Some (extension_of_grid (configuration_of grid.now))) }
 {
     grid.metadata(alloc)?.into_field(alloc)
-}
-
-/// Returns the metadata of a fill value of the data type.
-fn fill_metadata(
-    alloc: Global,
-    data_type: &DataType,
-    fill_value: &FillValue,
-) -> Result<FillValueMetadata, AllocError>
-    requires { IsSome (fill_cell (kind data_type.now) fill_value.now) }
-    ensures { IfOk result (λ m. fill_data m ≡ fill_written (kind data_type.now) fill_value.now) }
-{
-    match data_type.metadata_fill_value(alloc, fill_value) {
-        Ok(metadata) => Ok(metadata),
-        Err(DataTypeFillValueError::OutOfMemory) => Err(AllocError),
-        Err(DataTypeFillValueError::Invalid) => unreachable!(),
-    }
 }

@@ -7,7 +7,7 @@ ghost use Rattle.zarrs_chunk_grid.specs.GridView.{configuration_of, array_extent
 ghost use Rattle.zarrs_chunk_grid.specs.Metadata.{grid_said};
 ghost use Rattle.zarrs_keys.specs.Metadata.{key_encoding_of};
 ghost use Rattle.zarrs_data_type.specs.Cell.{fill_cell};
-ghost use Rattle.zarrs_data_type.specs.FillMetadata.{fill_said};
+ghost use Rattle.zarrs_data_type.specs.FillMetadata.{fill_said, fill_written};
 ghost use Rattle.zarrs_data_type.specs.Kind.{kind};
 ghost use Rattle.zarrs_data_type.specs.TypeMetadata.{kind_of};
 ghost use Rattle.zarrs_codec.specs.Metadata.{chain_said};
@@ -22,7 +22,9 @@ ghost use Rattle.zarrs_creation.specs.Meanings.{names_said, creation_v3};
 use std::alloc::{AllocError, Global};
 use zarrs_chunk_grid::ChunkGrid;
 use zarrs_codec::CodecChain;
-use zarrs_data_type::{DataType, DataTypeFillValueMetadataError, FillValue};
+use zarrs_data_type::{
+    DataType, DataTypeFillValueError, DataTypeFillValueMetadataError, FillValue,
+};
 use zarrs_keys::ChunkKeyEncoding;
 use zarrs_metadata::{
     ArrayMetadataV3, DimensionName, FillValueMetadata, MetadataV3, PluginCreateError,
@@ -143,6 +145,25 @@ pub fn fill_value_from(
         Err(DataTypeFillValueMetadataError::Invalid) => {
             Err(invalid_fill_value(alloc, name, metadata)?)
         }
+    }
+}
+
+/// Returns the metadata of a fill value, which is one of the data type.
+///
+/// # Errors
+/// `AllocError`: out of memory.
+pub fn fill_metadata(
+    alloc: Global,
+    data_type: &DataType,
+    fill_value: &FillValue,
+) -> Result<FillValueMetadata, AllocError>
+    requires { IsSome (fill_cell (kind data_type.now) fill_value.now) }
+    ensures { IfOk result (λ m. fill_data m ≡ fill_written (kind data_type.now) fill_value.now) }
+{
+    match data_type.metadata_fill_value(alloc, fill_value) {
+        Ok(metadata) => Ok(metadata),
+        Err(DataTypeFillValueError::OutOfMemory) => Err(AllocError),
+        Err(DataTypeFillValueError::Invalid) => unreachable!(),
     }
 }
 

@@ -1,12 +1,10 @@
 //! The V3 metadata that says the parts of an array.
 ghost use Rattle.std.specs.Prelude.{◌≡◌, true, Ok, IsSome, IfOk};
-ghost use Rattle.zarrs_metadata_parts.specs.FillValue.{fill_data};
 ghost use Rattle.zarrs_metadata_v3.specs.View.{document_view};
 ghost use Rattle.zarrs_keys.specs.declared.encodings.ChunkKeyEncoding.TheVariants.{Default};
 ghost use Rattle.zarrs_metadata_parts.specs.declared.separators.ChunkKeySeparator.TheVariants.{Slash};
 ghost use Rattle.zarrs_chunk_grid.specs.declared.grid.ChunkGrid.TheVariants.{Regular};
 ghost use Rattle.zarrs_data_type.specs.Cell.{fill_cell};
-ghost use Rattle.zarrs_data_type.specs.FillMetadata.{fill_written};
 ghost use Rattle.zarrs_data_type.specs.Kind.{kind};
 ghost use Rattle.zarrs_creation.specs.Meanings.{meaning_with, creation_v3};
 ghost use Rattle.zarrs_script.specs.Parts.{document_for, is_whole_number};
@@ -14,25 +12,10 @@ ghost use Rattle.zarrs_script.specs.Parts.{document_for, is_whole_number};
 use std::alloc::{AllocError, Global};
 use zarrs_chunk_grid::{ChunkGridTraits, RegularChunkGrid};
 use zarrs_codec::CodecChain;
-use zarrs_data_type::{DataType, DataTypeFillValueError, FillValue};
+use zarrs_creation::fill_metadata;
+use zarrs_data_type::{DataType, FillValue};
 use zarrs_data_type_kinds::laws::written_fill_value_is_read;
-use zarrs_metadata::{ArrayMetadataV3, FillValueMetadata};
-
-/// Returns the metadata of the fill value.
-fn fill_metadata(
-    alloc: Global,
-    data_type: &DataType,
-    fill_value: &FillValue,
-) -> Result<FillValueMetadata, AllocError>
-    requires { IsSome (fill_cell (kind data_type.now) fill_value.now) }
-    ensures { IfOk result (λ m. fill_data m ≡ fill_written (kind data_type.now) fill_value.now) }
-{
-    match data_type.metadata_fill_value(alloc, fill_value) {
-        Ok(metadata) => Ok(metadata),
-        Err(DataTypeFillValueError::OutOfMemory) => Err(AllocError),
-        Err(DataTypeFillValueError::Invalid) => unreachable!(),
-    }
-}
+use zarrs_metadata::ArrayMetadataV3;
 
 /// Returns the V3 metadata of an array of bools or integers that is cut by this grid, with `default` keys separated by
 /// `/` (Zarr V3 core specification, array metadata). It says these parts.

@@ -6,13 +6,14 @@ ghost use Rattle.zarrs_creation.specs.Meanings.{dimension_names_of};
 ghost use Rattle.zarrs_builder.specs.Builders.{additional_fields_of};
 ghost use Rattle.zarrs_builder.specs.declared.builder.ArrayBuilder.{ArrayBuilder};
 
-use super::{ArrayBuilder, fill_metadata, grid_field};
+use super::{ArrayBuilder, grid_field};
 use crate::copies::copied_codecs;
 use crate::fill_value::IntoFillValue;
 use serde_json::Map;
 use std::alloc::{AllocError, Global};
 use zarrs::Array;
 use zarrs_codec::CodecSpecificOptions;
+use zarrs_creation::fill_metadata;
 use zarrs_data_type::IntoField;
 use zarrs_metadata::{AdditionalFieldsV3, ArrayMetadata, DimensionName};
 use zarrs_metadata_parts::members::copied;

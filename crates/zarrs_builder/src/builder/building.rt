@@ -14,7 +14,7 @@ ghost use Rattle.zarrs_options.specs.Refusals as refusal;
 ghost use Rattle.zarrs_builder.specs.Built.{chain_chosen, cut_into, grid_chosen};
 ghost use Rattle.zarrs_builder.specs.Built.{fill_stated, sizes_said};
 
-use super::{ArrayBuilder, fill_metadata};
+use super::ArrayBuilder;
 use crate::copies::copied_codecs;
 use crate::data_type::ArrayBuilderDataType;
 use crate::fill_value::ArrayBuilderFillValue;
@@ -26,7 +26,7 @@ use zarrs_codec::{
     ArrayToBytesCodec, BytesToBytesCodecs, CodecChain, ShardingCodec, ShardingIndexLocation,
     default_array_to_bytes_codec,
 };
-use zarrs_creation::{check_names, grid_from};
+use zarrs_creation::{check_names, fill_metadata, grid_from};
 use zarrs_data_type::{DataType, FillValue};
 use zarrs_data_type_kinds::laws::written_fill_value_is_read;
 use zarrs_keys::NodePath;
