@@ -16,7 +16,7 @@ use zarrs::{Array, ArraySubset, ArraySubsetTraits};
 /// The bytes of cells that a band is to have.
 const WANTED: u64 = 16 * 1024 * 1024;
 
-/// The bytes of cells of a band that ends inside of chunks, whose values are held beside it.
+/// The bytes of cells of a band that begins or ends inside of chunks, whose values are held beside it.
 const CUTTING: u64 = 32 * 1024 * 1024;
 
 /// The most bytes of cells of a band that has more than one cell.
@@ -50,11 +50,13 @@ fn row_bytes(array: &Array<()>, region: &ArraySubset, axis: usize) -> u64
 }
 
 /// Returns rows up to the end of a chunk, and those of further chunks as long as there are no more than wanted. If the end is
-/// too far, returns as many rows as a band has that ends before it.
+/// too far, returns as many rows as a band has that ends before it. It is too far sooner where the first row is not the
+/// chunk's first one.
 fn rows_up_to(to_end: u64, height: u64, wanted: u64, cutting: u64, most: u64) -> u64
     requires { 1 ≤ cutting }
     ensures { 1 ≤ result }
 {
+    let most = if to_end < height { cutting } else { most };
     if to_end == 0 || to_end > most {
         return cutting;
     }
