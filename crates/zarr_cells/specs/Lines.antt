@@ -1,5 +1,6 @@
 -- Cells as text: a JSON list for each row, on a line of its own.
-use Rattle.std.specs.Prelude.{◌==◌, ◌&&◌, ℕ, zero, suc, ◌+◌, ◌-◌, List, [], ◌∷◌, ◌++◌, Option, Some, None, Bool, length, take, drop, slice_index, nat_lt, nat_le, if◌then◌else◌, option_and_then, option_map, IfSome, ◌≡◌}
+use Rattle.std.specs.Prelude.{◌≡◌, ◌==◌, ◌&&◌, ℕ, zero, suc, ◌+◌, ◌-◌, List, [], ◌∷◌, ◌++◌, Option, Some, None, Bool, IfSome}
+use Rattle.std.specs.Prelude.{length, take, drop, slice_index, nat_lt, nat_le, if◌then◌else◌, option_and_then, option_map}
 use Rattle.std.specs.List.{prefix_len, suffix_len}
 use Rattle.std.specs.Char.{is_ascii_whitespace}
 use Rattle.std.specs.Io.KnownBytes.{Appends}
@@ -103,7 +104,8 @@ module _ (form : Form) (size width : ℕ) where
   -- so many cells from the column on that the reader began with were added to the bytes
   abbrev pub ReadsCells : ℕ → ℕ → Option (List ℕ) → Option (List ℕ) → List ℕ → List ℕ → Type 0
   ReadsCells count column old new before after =
-      IfSome old (λ text. (cells : List ℕ) × (left : List ℕ) × (cells_in count column text ≡ Some (cells, left)) × (new ≡ Some left) × (after ≡ before ++ cells))
+      IfSome old (λ text. (cells : List ℕ) × (left : List ℕ)
+      × (cells_in count column text ≡ Some (cells, left)) × (new ≡ Some left) × (after ≡ before ++ cells))
 
 -- some bytes were added behind those that were there
 pub record Extends (before after : List ℕ) : Type 0 where

@@ -1,5 +1,6 @@
 -- Numpy's format: a header that says the type and the shape, and then the cells.
-use Rattle.std.specs.Prelude.{◌≡◌, ◌==◌, ℕ, ◌+◌, ◌-◌, ◌%◌, ◌<◌, ◌^◌, List, [], ◌∷◌, ◌++◌, Option, Some, None, length, take, filter, replicate, not, codes, decimal, if◌then◌else◌}
+use Rattle.std.specs.Prelude.{◌≡◌, ◌==◌, ℕ, ◌+◌, ◌-◌, ◌%◌, ◌<◌, ◌^◌, List, [], ◌∷◌, ◌++◌, Option, Some, None}
+use Rattle.std.specs.Prelude.{length, take, filter, replicate, not, codes, decimal, if◌then◌else◌}
 use Rattle.std.specs.Char.{is_ascii_whitespace}
 use Rattle.std.specs.Int.{w16, to_le_bytes}
 use Rattle.std.specs.Io.KnownBytes.{Consumes}

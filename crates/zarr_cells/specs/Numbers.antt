@@ -1,5 +1,7 @@
 -- What words say as cells: the bits of a number, and the bytes of these.
-use Rattle.std.specs.Prelude.{◌≡◌, ◌≢◌, ◌<◌, ⊤, ◌==◌, ◌&&◌, ℕ, ◌-◌, ◌%◌, ◌^◌, List, [], ◌∷◌, ◌++◌, Option, Some, None, Result, Ok, Err, Bool, false, length, take, drop, replicate, slice_index, slice_range, nat_lt, nat_le, bytes_eq, codes, to_bits, if◌then◌else◌, option_and_then}
+use Rattle.std.specs.Prelude.{◌≡◌, ◌≢◌, ◌<◌, ⊤, ◌==◌, ◌&&◌, ℕ, ◌-◌, ◌%◌, ◌^◌, List, [], ◌∷◌, ◌++◌, Option, Some, None, Result, Ok, Err, Bool, false}
+use Rattle.std.specs.Prelude.{length, take, drop, replicate, slice_index, slice_range, nat_lt, nat_le, bytes_eq, codes, to_bits}
+use Rattle.std.specs.Prelude.{if◌then◌else◌, option_and_then}
 use Rattle.std.specs.Io.KnownBytes.{Appends}
 use Rattle.std.specs.Str.{all_ascii_digits}
 use Rattle.std.specs.Str.Parse.{digits_value}
@@ -42,7 +44,8 @@ format_of Eight = binary64
 
 -- the bits of the float that the number is nearest to, unless that is no finite one
 abbrev pub finite_in : Width → List ℕ → Option ℕ
-finite_in width word = option_and_then (λ number. if float_is_finite number then Some (to_bits (format_of width) number) else None) (parse_float (format_of width) word)
+finite_in width word =
+    option_and_then (λ number. if float_is_finite number then Some (to_bits (format_of width) number) else None) (parse_float (format_of width) word)
 
 abbrev pub nan_bits : Width → ℕ
 nan_bits Four = 0x7fc00000
@@ -79,7 +82,9 @@ name_in width name =
 
 -- what stands between the quotes that the word begins and ends with
 abbrev pub unquoted : List ℕ → Option (List ℕ)
-unquoted word = if nat_lt 1 (length word) && (slice_index word 0 == 34 && (slice_index word (length word - 1) == 34)) then Some (slice_range word 1 (length word - 1)) else None
+unquoted word =
+    if nat_lt 1 (length word) && (slice_index word 0 == 34 && (slice_index word (length word - 1) == 34))
+    then Some (slice_range word 1 (length word - 1)) else None
 
 abbrev pub float_in_name : Width → List ℕ → Option (List ℕ) → Option ℕ
 float_in_name width word (Some name) = name_in width name

@@ -47,7 +47,8 @@ module _ {R : Type 0} (layout : Layout) where
     pub written : Appends old new bytes
 
   -- lines of the cells at these places were written, from the one column to the other
-  pub record WritesLines (directory : Directory R) (form : Form) (size width column after : ℕ) (places : List (List ℕ)) (old new : Option (List ℕ)) : Type 0 where
+  pub record WritesLines (directory : Directory R) (form : Form) (size width column after : ℕ) (places : List (List ℕ))
+      (old new : Option (List ℕ)) : Type 0 where
     pub bytes : List ℕ
     pub cells : AreCells directory places bytes
     pub written : WritesCells form size width column after bytes old new
@@ -73,7 +74,8 @@ module _ {R : Type 0} (layout : Layout) where
     pub read : Consumes input left bytes
 
   -- the cells of the lines that the reader began with were stored at these places, from the one column to the other
-  pub record StoresLines (form : Form) (size width column after : ℕ) (places : List (List ℕ)) (input left : Option (List ℕ)) (old new : DirectoryStore R) : Type 0 where
+  pub record StoresLines (form : Form) (size width column after : ℕ) (places : List (List ℕ)) (input left : Option (List ℕ))
+      (old new : DirectoryStore R) : Type 0 where
     pub bytes : List ℕ
     pub cells : StoresPlaces places bytes old new
     pub read : ReadsLines form size width (length places) column input left [] bytes

@@ -65,8 +65,10 @@ module _ {S : Type 0} where
   -- the cells of a part of its chunk are returned, or the read is refused; if the part is the whole chunk, it is where the store
   -- refuses the key
   pub record DecodesPart (state : S → StoreState) (part : Box) (decoder : ArrayPartialDecoder S) (result : Result ArrayBytes ArrayError) : Type 0 where
-    pub cells : IfOk result (λ made. RetrievesPart (layout_of_decoder decoder) (indices_of_decoder decoder) part (data_of made) (store_of_decoder state decoder))
-    pub refused : IfErr result (λ e. RefusesRetrievePart (layout_of_decoder decoder) (indices_of_decoder decoder) part (refusal_of e) (store_of_decoder state decoder))
+    pub cells : IfOk result (λ made. RetrievesPart (layout_of_decoder decoder) (indices_of_decoder decoder) part (data_of made)
+        (store_of_decoder state decoder))
+    pub refused : IfErr result (λ e. RefusesRetrievePart (layout_of_decoder decoder) (indices_of_decoder decoder) part (refusal_of e)
+        (store_of_decoder state decoder))
     pub refusing : is_whole_of (box_at (layout_of_decoder decoder).grid (indices_of_decoder decoder)).shape part ≡ true
         → (store_of_decoder state decoder).refuses ((layout_of_decoder decoder).key (indices_of_decoder decoder)) ≡ true → IsErr result
 

@@ -1,5 +1,6 @@
 -- The law of every chain of the code, from those of its codecs.
-use Rattle.std.proofs.Common.{◌≡◌, ◌+◌, ◌*◌, ◌<◌, ◌^◌, ◌&&◌, ℕ, Bool, true, false, List, [], ◌∷◌, length, get_or, Option, None, Some, refl, sym, ap, subst, ◌∙◌, arith}
+use Rattle.std.proofs.Common.{◌≡◌, ◌+◌, ◌*◌, ◌<◌, ◌^◌, ◌&&◌, ℕ, Bool, true, false, List, [], ◌∷◌, length, get_or, Option, None, Some}
+use Rattle.std.proofs.Common.{refl, sym, ap, subst, ◌∙◌, arith}
 use Rattle.std.specs.Prelude.{option_and_then, slice_index_or}
 use Rattle.std.specs.List.{list_any, range_with_len}
 use Rattle.std.proofs.lemmas.Bool.{and_right}
@@ -27,7 +28,8 @@ use Rattle.zarrs_codec.specs.declared.codec.ArrayToBytesCodec as codec
 use Rattle.zarrs_codec.specs.declared.chain.CodecChain.{CodecChain}
 use Rattle.zarrs_codec_chain.specs.Chain.{ChainMeaning, IsLawfulChain, chunk_cells}
 use Rattle.zarrs_codec_optional.specs.ShardingMetadata.{sizes_of}
-use Rattle.zarrs_codec.specs.Chains.{array_to_array_of, array_to_bytes_of, behind, bytes_codec_data, codec_meaning, is_at_start, leaf_meaning, chain_meaning, no_codec}
+use Rattle.zarrs_codec.specs.Chains.{array_to_array_of, array_to_bytes_of, behind, bytes_codec_data}
+use Rattle.zarrs_codec.specs.Chains.{codec_meaning, is_at_start, leaf_meaning, chain_meaning, no_codec}
 use Rattle.zarrs_codec.specs.Configurations.{BytesCodecData, cells_meaning_of, no_cells, whole_chunk, with_places}
 use Rattle.zarrs_codec.specs.Configurations as configured
 use Rattle.zarrs_codec_chain.specs.Deciding.{PlacesDecide}

@@ -10,4 +10,5 @@ use Rattle.zarrs_codec_chain.specs.declared.shard_part.ShardPart.{ShardPart}
 module _ {B : Type 0} {b : SourceMeaning B} where
   abbrev pub read_of : ShardPart B b → ShardRead
   read_of read =
-      shard_read read.at_start (chunk_shape read.subchunks) (subchunk_shape read.subchunks) (box_of read.part.now) (bytes_of read.stored) (refuses_of read.stored)
+      shard_read read.at_start (chunk_shape read.subchunks) (subchunk_shape read.subchunks) (box_of read.part.now) (bytes_of read.stored)
+      (refuses_of read.stored)

@@ -145,7 +145,8 @@ RefusesPatches layout keep itself first region held chunks r old new =
 abbrev pub PatchesPart : Layout → Bool → Bool → List ℕ → Box → ArrayData → StoreState → StoreState → Type 0
 PatchesPart layout keep asked index part held old new =
     (store_part_refusal layout index part held ≡ None)
-    × PatchesAll layout keep (IsPatched layout asked (part_box (box_at layout.grid index) part) old) (part_box (box_at layout.grid index) part) held (index ∷ []) old new
+    × PatchesAll layout keep (IsPatched layout asked (part_box (box_at layout.grid index) part) old) (part_box (box_at layout.grid index) part) held
+    (index ∷ []) old new
 
 abbrev pub RefusesPatchPart : Layout → Bool → Bool → List ℕ → Box → ArrayData → Refusal → StoreState → StoreState → Type 0
 RefusesPatchPart layout keep asked index part held r old new =
@@ -160,7 +161,8 @@ PatchesRegion layout keep asked shape region held old new =
 
 abbrev pub RefusesPatchRegion : Layout → Bool → Bool → List ℕ → Box → ArrayData → Refusal → StoreState → StoreState → Type 0
 RefusesPatchRegion layout keep asked shape region held r old new =
-    RefusesPatches layout keep (IsPatched layout asked region old) (store_region_refusal layout shape region held) region held (chunks_met layout.grid region) r old new
+    RefusesPatches layout keep (IsPatched layout asked region old) (store_region_refusal layout shape region held) region held
+    (chunks_met layout.grid region) r old new
 
 -- ---- an encoder of the parts of one chunk, which asks its key whatever the part
 

@@ -9,4 +9,5 @@ use Rattle.zarrs_engine_layout.specs.declared.array_layout.ArrayLayout.{ArrayLay
 module _ {G K C : Type 0} {g : GridMeaning G} {k : KeyMeaning K} {c : ChainMeanings C} where
   -- where an array lies, and what its grid, keys, chain, and cell type mean
   abbrev pub layout_meaning : ArrayLayout G K C g k c → Layout
-  layout_meaning layout = layout_at (g.grid layout.grid) layout.path (k.key layout.keys) (c.meaning layout.chain) (kind layout.cell_type.data_type) layout.cell_type.fill_value
+  layout_meaning layout =
+      layout_at (g.grid layout.grid) layout.path (k.key layout.keys) (c.meaning layout.chain) (kind layout.cell_type.data_type) layout.cell_type.fill_value

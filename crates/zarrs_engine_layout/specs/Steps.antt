@@ -1,5 +1,6 @@
 -- What the steps inside a call leave.
-use Rattle.std.specs.Prelude.{◌≡◌, ◌≢◌, ◌⊎◌, ℕ, ◌+◌, ◌*◌, ◌^◌, ◌<◌, ◌≤◌, nat_le, Bool, true, List, length, Option, Some, None, option_map, replicate, Result, Vec}
+use Rattle.std.specs.Prelude.{◌≡◌, ◌≢◌, ◌⊎◌, ℕ, ◌+◌, ◌*◌, ◌^◌, ◌<◌, ◌≤◌, nat_le, Bool, true, List, Option, Some, None, Result, Vec}
+use Rattle.std.specs.Prelude.{length, option_map, replicate}
 use Rattle.std.specs.declared.alloc.Global.{Global}
 use Rattle.std.specs.Option.{option_or}
 use Rattle.zarrs_subset.specs.Boxes.{position_count}
@@ -13,7 +14,8 @@ use Rattle.zarrs_data_type.specs.Cells.{cells}
 use Rattle.zarrs_engine_calls.specs.declared.error.ArrayError.{ArrayError}
 use Rattle.zarrs_engine_calls.specs.Layout.{Layout}
 use Rattle.zarrs_engine_calls.specs.Content.{decoded_cells}
-use Rattle.zarrs_engine_calls.specs.Refusals.{Refusal, codec, indices, storage, size_overflow, out_of_memory, refusal_of, RefusesBy, length_refusal, key_refusal}
+use Rattle.zarrs_engine_calls.specs.Refusals.{Refusal, codec, indices, storage, size_overflow, out_of_memory}
+use Rattle.zarrs_engine_calls.specs.Refusals.{refusal_of, RefusesBy, length_refusal, key_refusal}
 use Rattle.zarrs_engine_calls.specs.Refusals.{box_refusal, data_refusal, fill_refusal, read_refusal, refuse_if}
 use Rattle.zarrs_engine_calls.specs.ArgumentRefusals.{size_refusal}
 use Rattle.zarrs_engine_calls.specs.Changes.{IsValueOf, Makes}
@@ -66,7 +68,8 @@ pub record HasValue (layout : Layout) (keep : Bool) (box : Box) (held : ArrayDat
 -- this is so made of the cells of such a chunk, or what comes `first` refuses it, or what they decide
 abbrev pub MakesValue : Layout → (keep : Bool) → (first : Option Refusal) → Box → ArrayData → Result (Option (Vec ℕ Global)) ArrayError → Type 0
 MakesValue layout keep first box held =
-    Answers (option_or first (data_refusal layout keep box.shape (cells layout.kind held))) (λ value. HasValue layout keep box held (option_map (λ v. v.items) value))
+    Answers (option_or first (data_refusal layout keep box.shape (cells layout.kind held)))
+    (λ value. HasValue layout keep box held (option_map (λ v. v.items) value))
 
 -- the data is so many fill values
 abbrev pub IsFill : Layout → ℕ → ArrayData → Type 0

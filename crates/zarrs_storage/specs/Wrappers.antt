@@ -82,7 +82,8 @@ pub record WritesBy {W : Type 0} (ends : Endings) (state : W → StoreState) (wr
 -- A writing call of a store over a store that counts its calls by itself: what the trait says. At the last call
 -- nothing is passed on. If it is the one to be refused it is refused with this text, and not passed on. Else it is
 -- passed on. `write` is what the call makes of the values.
-pub record WritesOver {W S : Type 0} (ends : Endings) (outer : W → StoreState) (below : W → S) (state : S → StoreState) (is_next passes_on : W → Bool) (text : List ℕ) (write : Values → Values) (old new : W) (result : Result (Unit {0}) StorageError) : Type 0 where
+pub record WritesOver {W S : Type 0} (ends : Endings) (outer : W → StoreState) (below : W → S) (state : S → StoreState) (is_next passes_on : W → Bool)
+    (text : List ℕ) (write : Values → Values) (old new : W) (result : Result (Unit {0}) StorageError) : Type 0 where
   pub ok : OnOk result (ends.accepts (outer old) (outer new) (write (outer old).values))
   pub refused : OnErr result (ends.refuses (outer old) (outer new))
   pub exhausted : (outer old).calls ≡ last_call → IsErrOf result Exhausted × (below new ≡ below old)
