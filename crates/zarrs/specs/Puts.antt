@@ -40,6 +40,12 @@ pub record PutsFront (puts : List Put) (refusal : Refusal) (old new : StoreState
 abbrev pub RefusesPuts : List Put → Refusal → StoreState → StoreState → Type 0
 RefusesPuts puts refusal old new = ((refusal ≡ out_of_memory) × (new ≡ old)) ⊎ PutsFront puts refusal old new
 
+-- these puts write the metadata of an array at the path as options show it
+pub record AreShown (o : MetadataOptionsData) (path : List ℕ) (m : MetadataData) (puts : List Put) : Type 0 where
+  pub shows : MetadataData
+  pub is_shown : shown o m ≡ Ok shows
+  pub written : IsWrittenBy path shows puts
+
 -- the metadata of an array at the path is written as options show it
 pub record StoresMetadata (o : MetadataOptionsData) (path : List ℕ) (m : MetadataData) (old new : StoreState) : Type 0 where
   pub shows : MetadataData

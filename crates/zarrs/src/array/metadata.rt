@@ -56,13 +56,8 @@ impl<TStorage: WritableStorageTraits> Array<TStorage> {
             → OnOk result (Writes (documents_of m) (store_of_array TStorage.state self.old)
             (store_of_array TStorage.state self.new)) }
     {
-        // The metadata of an array has a V3 document, so that only memory can run out.
-        let Ok(metadata) = self.metadata_opt(alloc, options) else {
-            return Err(StorageError::OutOfMemory);
-        };
-        let puts = puts_of_metadata(alloc, self.engine.path(), &metadata)?;
-        self.put_all(alloc, puts)?;
-        Ok(())
+        let puts = self.shown_puts(alloc, options)?;
+        self.put_all(alloc, puts)
     }
 
     /// Erases the metadata of the array's own version. See `erase_metadata_opt`.
@@ -136,5 +131,30 @@ impl<TStorage: WritableStorageTraits> Array<TStorage> {
             Some(value) => self.engine.storage_mut().set(alloc, &key, value),
             None => self.engine.storage_mut().erase(alloc, &key),
         }
+    }
+}
+
+impl<TStorage> Array<TStorage> {
+    ghost use Rattle.std.specs.Prelude.{map, IfOk, IsOkUnless};
+    ghost use Rattle.zarrs_options.specs.Options.{options_view};
+    ghost use Rattle.zarrs_creation.specs.Writing.{put_view};
+    ghost use Rattle.zarrs.specs.Arrays.{metadata_of_array, path_of_array};
+    ghost use Rattle.zarrs.specs.Puts.{AreShown};
+
+    /// Returns what puts the metadata into the store, as these options show it.
+    pub(super) fn shown_puts(
+        &self,
+        alloc: Global,
+        options: &ArrayMetadataOptions,
+    ) -> Result<Vec<MetadataPut>, StorageError>
+        ensures shown { IfOk result (λ puts. AreShown (options_view options.now)
+            (path_of_array self.now) (metadata_of_array self.now) (map put_view puts.items)) }
+        ensures accepted { IsOkUnless result StorageError.OutOfMemory }
+    {
+        // The metadata of an array has a V3 document, so that only memory can run out.
+        let Ok(metadata) = self.metadata_opt(alloc, options) else {
+            return Err(StorageError::OutOfMemory);
+        };
+        puts_of_metadata(alloc, self.engine.path(), &metadata)
     }
 }

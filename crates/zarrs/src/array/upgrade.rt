@@ -1,7 +1,7 @@
 //! The V2 metadata of an array, turned into V3 metadata in its store.
 use super::Array;
 use std::alloc::Global;
-use zarrs_creation::{MetadataPut, puts_of_metadata};
+use zarrs_creation::MetadataPut;
 use zarrs_keys::{meta_key_v2_array, meta_key_v2_attributes};
 use zarrs_metadata::{ArrayMetadata, array_metadata_v2_to_v3};
 use zarrs_options::MetadataConvertVersion;
@@ -26,21 +26,17 @@ impl<TStorage> Array<TStorage> {
         let options = self
             .metadata_options
             .with_metadata_convert_version(MetadataConvertVersion::V3);
-        // The metadata of an array has a V3 document, so that only memory can run out.
-        let Ok(metadata) = self.metadata_opt(alloc, &options) else {
-            return Err(StorageError::OutOfMemory);
-        };
+        let mut puts = self.shown_puts(alloc, &options)?;
         let path = self.engine.path();
         let array = MetadataPut {
             key: meta_key_v2_array(alloc, path)?,
             value: None,
         };
+        puts.push(array)?;
         let attributes = MetadataPut {
             key: meta_key_v2_attributes(alloc, path)?,
             value: None,
         };
-        let mut puts = puts_of_metadata(alloc, path, &metadata)?;
-        puts.push(array)?;
         puts.push(attributes)?;
         Ok(puts)
     }

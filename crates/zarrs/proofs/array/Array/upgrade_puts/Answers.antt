@@ -17,11 +17,12 @@ returns-clause-upgrade g c = λ m is.
     let array = c.args.self.now in
     let o = metadata_options_of_array array in
     let path = path_of_array array in
-    let n = metadata_view c.in-Ok.metadata in
     let puts = c.in_ok-puts.puts.items in
+    let a = c.in_ok-puts.ensures.shown in
+    let n = a.shows in
     let shows : shown (record o { convert_version = convert.V3 }) (metadata_of_array array) ≡ Ok n =
-    subst (λ (x : MetadataOptionsData). shown x (metadata_of_array array) ≡ Ok n) c.with_metadata_convert_version-options.ensures c.in-Ok.ensures.shown in
-    let written = subst (λ (p : List ℕ). IsWrittenBy p n (map put_view puts)) c.path-path.ensures c.in_ok-puts.ensures.written in
+    subst (λ (x : MetadataOptionsData). shown x (metadata_of_array array) ≡ Ok n) c.with_metadata_convert_version-options.ensures a.is_shown in
+    let written = a.written in
     let made = upgrade_made o path (metadata_of_array array) m is n (map put_view puts) shows written in
     let here = c.path-path.ensures in
     let array_key = c.in_ok-meta_key_v2_array.ensures.key ∙ ap (λ (p : List ℕ). path_key p v2_array_name) here in
