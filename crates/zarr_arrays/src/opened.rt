@@ -87,12 +87,17 @@ fn see_documents(
     Ok(())
 }
 
-/// Opens the array that the view has, without a store. Its document is stored as it is: no attribute is added.
+/// Returns the array without its store. Its document is stored as it is: no attribute is added.
+fn without_store(alloc: Global, array: &Array<MemoryStore>) -> Result<Array<()>, Refusal> {
+    let made = array.with_storage(alloc, ())?;
+    let options = ArrayMetadataOptions::default().with_include_zarrs_metadata(false);
+    Ok(made.with_metadata_options(options))
+}
+
+/// Opens the array that the view has, without a store.
 fn array_in(alloc: Global, view: MemoryStore) -> Result<Array<()>, Refusal> {
     let array = Array::open(alloc, view, "/")?;
-    let array = array.with_storage(alloc, ())?;
-    let options = ArrayMetadataOptions::default().with_include_zarrs_metadata(false);
-    Ok(array.with_metadata_options(options))
+    without_store(alloc, &array)
 }
 
 /// Opens the array of the directory.
