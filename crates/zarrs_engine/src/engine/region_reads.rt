@@ -95,7 +95,8 @@ impl<
         Ok(Some(made))
     }
 
-    /// Returns the cells that one chunk has of a region, or `None` if it is absent. Then `share.own` is where they lie.
+    /// Returns the cells that one chunk has of a region, and leaves where they lie in `share.own`; `None` if the chunk is
+    /// absent, or has none of the region.
     fn shared_cells(
         &self,
         alloc: Global,
