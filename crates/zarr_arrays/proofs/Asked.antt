@@ -1,5 +1,5 @@
 -- What holds of each of the chunks that a loop has gone over, and what a call may ask then.
-use Rattle.std.proofs.Common.{◌≡◌, ℕ, List, [], ◌∷◌, ◌++◌, ◌<◌, length, true, false, refl, sym, subst, ap, ◌∙◌, inl, inr, arith}
+use Rattle.std.proofs.Common.{◌≡◌, ℕ, List, [], ◌∷◌, ◌++◌, ◌<◌, length, true, refl, sym, subst, ap, ◌∙◌, inl, inr, arith}
 use Rattle.std.specs.Prelude.{◌⊎◌, Contains, Option, Some, None, Result, Ok, IfOk}
 use Rattle.std.specs.declared.alloc.AllocError.{AllocError}
 use Rattle.smallvec.specs.SmallVec.{SmallVec}
@@ -14,11 +14,11 @@ use Rattle.zarrs_subset.specs.Regions.{Box}
 use Rattle.zarrs_storage.specs.Store.{StoreState}
 use Rattle.zarrs_engine_calls.specs.Layout.{Layout}
 use Rattle.zarrs_engine_calls.specs.ChunkBoxes.{CoversBox, chunks_met}
-use Rattle.zarrs_engine_calls.specs.Reach.{MayAskChunk, MayAskChunks, MayAskParts, MayReadParts}
+use Rattle.zarrs_engine_calls.specs.Reach.{MayAskChunk, MayAskParts, MayReadParts}
 use Rattle.zarrs_directory.specs.Directory.{directory_state, was_read, Forgets, ReadsKey}
 use Rattle.zarrs_data_type.specs.ArrayData.{ArrayData}
 use Rattle.zarrs_engine_calls.specs.Reads.{ReadsRegion}
-use Rattle.zarr_arrays.specs.Reading.{HasRead, HasReadPart, KeepsRead, KeepsStore, ReadsAtMost, ReadsNoOthers, HasReadOnly}
+use Rattle.zarr_arrays.specs.Reading.{HasRead, HasReadPart, KeepsRead, KeepsStore, ReadsAtMost, ReadsNoOthers}
 use Rattle.zarrs_chunk_grid.specs.Grids.{box_at}
 use Rattle.zarrs_directory.specs.declared.store.DirectoryStore.{DirectoryStore}
 
@@ -54,13 +54,6 @@ ReadsAnyPlace state = (key : List ℕ) (place : ℕ) → state.may_read key plac
 
 pub may_ask : (layout : Layout) (index : List ℕ) (state : StoreState) → ReadsAnyPlace state → state.may_ask (layout.key index) ≡ true → MayAskChunk layout index state
 may_ask layout index state any asked = record { key = λ long. asked; places = λ long value place at below. any (layout.key index) place }
-
-pub read_parts : (layout : Layout) (region : Box) (chunks : List (List ℕ)) (state : StoreState) → ReadsAnyPlace state → MayAskChunks layout chunks state
-    → MayReadParts layout region chunks state
-read_parts layout region chunks state any each index among = record {
-  part = record { key = (each index among).key; places = λ long value place at needed. any (layout.key index) place };
-  whole = λ covers. each index among;
-}
 
 -- ---- what a step of a loop reads
 
@@ -105,7 +98,7 @@ module _ {R : Type 0} (layout : Layout) where
 
 -- ---- no more is read
 
-same_or_apart : (q k : List ℕ) → (q ≡ k) ⊎ (q ≡ k → ⊥)
+pub same_or_apart : (q k : List ℕ) → (q ≡ k) ⊎ (q ≡ k → ⊥)
 same_or_apart q k =
     elim (cases_Bool (bytes_eq q k)) [
       | inl same ↦ inl ((bytes_eq-Decides q k).0 same)
@@ -138,18 +131,6 @@ module _ {R : Type 0} (layout : Layout) where
         ];
   }
 
-  -- nothing was read before
-  pub read_only : (chunks : List (List ℕ)) (old new : DirectoryStore R) → ((key : List ℕ) → was_read old key ≡ false)
-      → MayAskChunks layout chunks (directory_state new) → ReadsNoOthers layout chunks old new → HasReadOnly layout chunks new
-  read_only chunks old new none each others = record {
-    each = each;
-    keys = λ key read.
-        elim (others.keys key read) [
-          | inl before ↦ absurd (false≢true (sym (none key) ∙ before))
-          | inr found ↦ found
-        ];
-  }
-
 -- a call of the iterator returned this position, or none
 pub yielded : (old new : Indices) (item : Option (Result (SmallVec ℕ) AllocError)) (position : SmallVec ℕ) → YieldsPosition old item new → item ≡ Some (Ok position)
     → positions_left old ≡ position.items ∷ positions_left new
@@ -166,12 +147,11 @@ module _ (layout other : Layout) (now then : StoreState) where
   chunk_at index same_layout same_state asked =
       subst (λ (l : Layout). MayAskChunk l index now) (sym same_layout) (subst (λ (s : StoreState). MayAskChunk other index s) (sym same_state) asked)
 
-  pub reads_at : (region : Box) → layout ≡ other → now ≡ then → ReadsAnyPlace then → MayAskChunks other (chunks_met other.grid region) then
+  pub reads_at : (region : Box) → layout ≡ other → now ≡ then → MayReadParts other region (chunks_met other.grid region) then
       → MayReadParts layout region (chunks_met layout.grid region) now
-  reads_at region same_layout same_state any asked =
+  reads_at region same_layout same_state asked =
       subst (λ (l : Layout). MayReadParts l region (chunks_met l.grid region) now) (sym same_layout)
-      (subst (λ (s : StoreState). MayReadParts other region (chunks_met other.grid region) s) (sym same_state)
-      (read_parts other region (chunks_met other.grid region) then any asked))
+      (subst (λ (s : StoreState). MayReadParts other region (chunks_met other.grid region) s) (sym same_state) asked)
 
   pub parts_at : (region : Box) → layout ≡ other → now ≡ then → MayAskParts other region (chunks_met other.grid region) then
       → MayAskParts layout region (chunks_met layout.grid region) now

@@ -1,3 +1,4 @@
 pub mod Asked
 pub mod BandLemmas
 pub mod Stored
+pub mod WantedLemmas

@@ -1,5 +1,5 @@
 -- What calls leave of a directory that was lent.
-use Rattle.std.proofs.Common.{◌≡◌, ℕ, List, [], ◌∷◌, Bool, true, false, ◌&&◌, Some, refl, sym, subst, ap, ◌∙◌}
+use Rattle.std.proofs.Common.{◌≡◌, ℕ, List, [], ◌∷◌, Bool, true, false, ◌&&◌, Some, refl, subst, ap}
 use Rattle.std.specs.Prelude.{Option, Result, Ok, OnOk, slice_index}
 use Rattle.std.specs.Borrow.{MutBor}
 use Rattle.zarrs_subset.specs.Regions.{Box, IsLong}

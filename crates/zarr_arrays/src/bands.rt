@@ -105,7 +105,7 @@ fn first_rows(
     Ok(rows_up_to(to_end, height, wanted, cutting, most))
 }
 
-/// Returns whether the region has at most so many cells, or one.
+/// Returns whether the region has at most this many cells, or one.
 fn has_at_most(region: &ArraySubset, cells: u64) -> bool
     ensures { OnTrue result (position_count (box_of region.now).shape ≤ max 1 cells) }
 {
@@ -159,7 +159,7 @@ impl Bands {
         Ok(Bands { left })
     }
 
-    /// Cuts the region along the axis after so many rows, and keeps the others.
+    /// Cuts the region along the axis after this many rows, and keeps the others.
     fn cut(
         &mut self,
         alloc: Global,
@@ -181,7 +181,7 @@ impl Bands {
     }
 
     /// Cuts off the next band: whole rows of the chunks of the array where memory holds as many, and at most 64 MiB of
-    /// cells, or one cell. The positions of the bands, one behind the other, are those of the region.
+    /// cells, or one cell. The positions of the bands, one after the other, are those of the region.
     ///
     /// # Errors
     /// E3 or E10 for a region that is none of the array's; E9. What is left then is not said.

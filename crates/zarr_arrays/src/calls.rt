@@ -3,33 +3,35 @@ ghost use Rattle.std.specs.Prelude.{◌≡◌, length, IfOk, OnOk};
 ghost use Rattle.zarrs_data_type.specs.ArrayData.{data_of};
 ghost use Rattle.zarrs_subset.specs.Regions.{box_of};
 ghost use Rattle.zarrs_engine_calls.specs.ChunkBoxes.{chunks_met};
-ghost use Rattle.zarrs_engine_calls.specs.Reach.{MayAskChunk, MayAskChunks, MayAskParts};
+ghost use Rattle.zarrs_engine_calls.specs.Reach.{MayAskChunk, MayAskParts, MayReadParts};
+ghost use Rattle.zarrs_engine_calls.specs.Reads.{ReadsRegion};
 ghost use Rattle.zarrs.specs.Arrays.{layout_of_array, store_of_array, HasAllButStore};
 ghost use Rattle.zarrs_directory.specs.Directory.{cache_state, directory_of, directory_state};
-ghost use Rattle.zarr_arrays.specs.Reading.{ReadsCells};
+ghost use Rattle.zarrs_directory.specs.Excerpts.{excerpts_state};
 ghost use Rattle.zarr_arrays.specs.Storing.{CompactsOver, StoresOver, UpgradesOver, lent_to};
 
 use crate::opened::Store;
+use crate::reading::ReadFiles;
 use crate::refusals::Refusal;
 use std::alloc::Global;
-use zarrs::{Array, ArrayBytes, ArraySubset, CodecOptions, ReadOnly, ReadableStorageTraits};
-use zarrs_directory::{Cache, Directory, DirectoryStore, LentDirectory};
+use zarrs::{Array, ArrayBytes, ArraySubset, CodecOptions, ReadableStorageTraits};
+use zarrs_directory::{Cache, Directory, Excerpts, LentDirectory};
 
 /// A directory of this system.
 type Place<'r> = Directory<'r, HostRuntime>;
 
-/// Returns the array over the store, which is lent to be read.
-fn reading<'s, 'r>(
+/// Returns the array over what was read of the files of its chunks.
+fn reading<'d, 'r>(
     array: &Array<()>,
     alloc: Global,
-    store: &'s Store<'r>,
-) -> Result<Array<ReadOnly<'s, Store<'r>>>, Refusal>
+    files: ReadFiles<'d, 'r>,
+) -> Result<Array<ReadFiles<'d, 'r>>, Refusal>
     ensures layout { IfOk result (λ a. layout_of_array a ≡ layout_of_array array.now) }
     ensures store { IfOk result (λ a.
-        store_of_array ⟦<ReadOnly<'s, DirectoryStore<'r, HostRuntime>> as ReadableStorageTraits>⟧.state a
-        ≡ directory_state store.now) }
+        store_of_array ⟦<Excerpts<'d, 'r, HostRuntime> as ReadableStorageTraits>⟧.state a
+        ≡ excerpts_state files.entry) }
 {
-    Ok(array.with_storage(alloc, ReadOnly::new(store))?)
+    Ok(array.with_storage(alloc, files)?)
 }
 
 /// Returns the array over the directory and what is held of it, which are lent to be written.
@@ -45,20 +47,21 @@ fn writing<'s, 'r>(
     Ok(array.with_storage(alloc, LentDirectory::new(directory, cache))?)
 }
 
-/// Returns the cells of the region, whose chunks were read.
+/// Returns the cells of the region, of whose chunks was read what it needs.
 pub(crate) fn retrieve_cells(
     array: &Array<()>,
     alloc: Global,
-    store: &Store<'_>,
+    files: ReadFiles<'_, '_>,
     region: &ArraySubset,
 ) -> Result<ArrayBytes<'static>, Refusal>
-    requires { MayAskChunks (layout_of_array array.now)
+    requires { MayReadParts (layout_of_array array.now) (box_of region.now)
         (chunks_met (layout_of_array array.now).grid (box_of region.now))
-        (directory_state store.now) }
-    ensures { IfOk result (λ cells. ReadsCells (layout_of_array array.now) (box_of region.now)
-        store.now (data_of cells)) }
+        (excerpts_state files) }
+    ensures { IfOk result (λ cells. ReadsRegion (layout_of_array array.now) (box_of region.now)
+        (chunks_met (layout_of_array array.now).grid (box_of region.now)) (data_of cells)
+        (excerpts_state files.entry)) }
 {
-    let array = reading(array, alloc, store)?;
+    let array = reading(array, alloc, files)?;
     let cells: Result<ArrayBytes<'static>, _> = array.retrieve_array_subset(alloc, region);
     drop(array);
     Ok(cells?)
@@ -84,7 +87,7 @@ fn store_through(
     Ok(())
 }
 
-/// Stores the cells of the region in the directory. The chunks were read of which it covers a part alone.
+/// Stores the cells of the region in the directory. The chunks that it covers only in part were read.
 fn store_beside(
     array: &Array<()>,
     alloc: Global,
@@ -170,7 +173,7 @@ fn upgrade_beside(
     Ok(())
 }
 
-/// Stores the cells of the region. The chunks were read of which it covers a part alone.
+/// Stores the cells of the region. The chunks that it covers only in part were read.
 pub(crate) fn store_cells(
     array: &Array<()>,
     alloc: Global,

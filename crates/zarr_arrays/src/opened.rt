@@ -7,8 +7,7 @@ ghost use Rattle.zarrs_creation.specs.Meanings.{shape_said};
 ghost use Rattle.zarrs.specs.Arrays.{layout_of_array, metadata_of_array};
 ghost use Rattle.zarrs_directory.specs.Directory.{directory_of};
 ghost use Rattle.zarr_cells.specs.Forms.{rows_of};
-ghost use Rattle.zarrs_engine_calls.specs.ChunkBoxes.{chunks_met};
-ghost use Rattle.zarr_arrays.specs.Reading.{HasReadOnly, ReadsCells};
+ghost use Rattle.zarr_arrays.specs.Reading.{ReadsCells};
 ghost use Rattle.zarr_arrays.specs.Storing.{CompactsRead, StoresCells, UpgradesStore};
 
 use crate::calls::{compact_chunk, retrieve_cells, store_cells, upgrade};
@@ -21,7 +20,7 @@ use zarrs::{
     Array, ArrayBytes, ArraySubset, ArraySubsetTraits, Bytes, CodecOptions, MemoryStore,
     ReadableStorageTraits, StoreKey, WritableStorageTraits,
 };
-use zarrs_directory::DirectoryStore;
+use zarrs_directory::{DirectoryStore, Excerpts};
 use zarrs_options::ArrayMetadataOptions;
 
 /// A store over a directory of this system.
@@ -129,7 +128,7 @@ impl<'r> Opened<'r> {
         CodecOptions::default().with_store_empty_chunks(self.lens.has_no_fill)
     }
 
-    /// Returns rows of so many cells, if the cells are numbers or bools.
+    /// Returns rows of this many cells, if the cells are numbers or bools.
     pub fn rows(&self, width: u64) -> Option<Rows>
         ensures { result ≡ rows_of (layout_of_array self.now.array).kind self.now.lens.floats width }
     {
@@ -172,29 +171,21 @@ impl<'r> Opened<'r> {
         }
     }
 
-    /// Returns the cells of the region. Its chunks are read first, and no other; what was read before is forgotten.
+    /// Returns the cells of the region. Of the files of its chunks is read what it needs, and of no other.
     ///
     /// # Errors
     /// E1 for a position that no chunk covers; E7 for a file that cannot be read; those of `Array::retrieve_array_subset`.
-    pub fn cells(
-        &mut self,
-        alloc: Global,
-        region: &ArraySubset,
-    ) -> Result<ArrayBytes<'static>, Refusal>
-        ensures cells { IfOk result (λ cells. ReadsCells (layout_of_array self.new.array)
-            (box_of region.now) self.new.store (data_of cells)) }
-        ensures only { OnOk result (HasReadOnly (layout_of_array self.old.array)
-            (chunks_met (layout_of_array self.old.array).grid (box_of region.now)) self.new.store) }
-        ensures array { self.new.array ≡ self.old.array }
-        ensures directory { OnOk result (directory_of self.new.store ≡ directory_of self.old.store) }
+    pub fn cells(&self, alloc: Global, region: &ArraySubset) -> Result<ArrayBytes<'static>, Refusal>
+        ensures { IfOk result (λ cells. ReadsCells (layout_of_array self.now.array)
+            (directory_of self.now.store) (box_of region.now) (data_of cells)) }
     {
-        self.store.forget();
-        read_chunks(&self.array, &mut self.store, alloc, region)?;
-        let cells = retrieve_cells(&self.array, alloc, &self.store, region)?;
+        let mut files = Excerpts::new(alloc, &self.store.directory);
+        read_chunks(&self.array, &mut files, alloc, region)?;
+        let cells = retrieve_cells(&self.array, alloc, files, region)?;
         Ok(cells)
     }
 
-    /// Stores the cells of the region. The chunks that it does not cover are read first.
+    /// Stores the cells of the region. The chunks that it covers only in part are read first.
     ///
     /// # Errors
     /// E1 for a position that no chunk covers; E7 for a file that cannot be read or written; those of

@@ -106,7 +106,7 @@ impl From<ArrayCreateError> for Refusal {
 
 impl From<StorageError> for Refusal {
     fn from(error: StorageError) -> Refusal {
-        Refusal::Call(ArrayError::StorageError(error))
+        Refusal::Call(ArrayError::from(error))
     }
 }
 

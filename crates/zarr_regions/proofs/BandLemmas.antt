@@ -1,7 +1,7 @@
 -- Cells of bands, one behind the other.
 use Rattle.std.proofs.Common.{◌≡◌, ℕ, List, [], ◌∷◌, ◌++◌, ◌+◌, Option, None, Some, length, refl, sym, subst, ap, ◌∙◌, append-nil, append_assoc, length-append}
 use Rattle.std.specs.Prelude.{MatchOption}
-use Rattle.std.specs.List.{All, flat_map}
+use Rattle.std.specs.List.{flat_map}
 use Rattle.std.specs.Io.KnownBytes.{Appends, Consumes}
 use Rattle.std.proofs.lemmas.List.Concat.{flat_map-append}
 use Rattle.std.proofs.lemmas.List.Elements.{All-nil, All-push, All-append}
@@ -10,8 +10,6 @@ use Rattle.zarrs_subset.specs.Boxes.{position_count}
 use Rattle.zarrs_subset.specs.Regions.{Box, IsLong, positions}
 use Rattle.zarrs_subset.proofs.Positions.{length-positions}
 use Rattle.zarrs_engine_calls.specs.Layout.{Layout}
-use Rattle.zarrs_engine_calls.specs.ChunkBoxes.{chunks_met}
-use Rattle.zarrs_directory.specs.Directory.{directory_of}
 use Rattle.zarrs_directory.specs.declared.files.Directory.{Directory}
 use Rattle.zarrs_directory.specs.declared.store.DirectoryStore.{DirectoryStore}
 use Rattle.zarrs_data_type.specs.Kind.{Kind, element_size}
@@ -23,7 +21,7 @@ use Rattle.zarr_cells.specs.Raw.{ReadsRaw, WritesRaw}
 use Rattle.zarr_cells.specs.declared.form.Form.{Form}
 use Rattle.zarr_cells.proofs.LineLemmas.{appends_none, column_both, reads_none, reads_both, writes_none, writes_both}
 use Rattle.zarr_cells.proofs.WordLemmas.{appends_both}
-use Rattle.zarr_arrays.specs.Reading.{HasReadOnly, ReadsCells}
+use Rattle.zarr_arrays.specs.Reading.{ReadsCells}
 use Rattle.zarr_arrays.specs.Storing.{StoresCells}
 use Rattle.zarr_regions.specs.Texts.{header_says, ReadsHeaderOf, WritesHeader}
 use Rattle.zarr_regions.specs.Cells.{Band, Make, IsRead, AreCells, WritesBytes, WritesLines, StoresBands, StoresPlaces, StoresBytes, StoresLines}
@@ -62,13 +60,12 @@ module _ {R : Type 0} (layout : Layout) where
     cells_none : AreCells layout directory [] []
     cells_none = record { bands = []; read = All-nil (IsRead layout directory); make = make_none }
 
-    pub cells_one : (region : Box) (bytes : List ℕ) (store : DirectoryStore R) → ReadsCells layout region store (fixed bytes)
-        → HasReadOnly layout (chunks_met layout.grid region) store → directory_of store ≡ directory → AreCells layout directory (positions region) bytes
-    cells_one region bytes store reads only same =
+    pub cells_one : (region : Box) (bytes : List ℕ) → ReadsCells layout directory region (fixed bytes) → AreCells layout directory (positions region) bytes
+    cells_one region bytes reads =
         let band : Band = record { region = region; bytes = bytes } in
         record {
           bands = band ∷ [];
-          read = All-push (IsRead layout directory) [] band (All-nil (IsRead layout directory)) (record { store = store; cells = reads; only = only; same = same });
+          read = All-push (IsRead layout directory) [] band (All-nil (IsRead layout directory)) reads;
           make = make_one region bytes;
         }
 
@@ -215,47 +212,27 @@ pub none_holds : {A : Type 0} (P : A → Type 0) (Q : Type 0) (found : Option A)
 none_holds P Q None not holds = holds
 none_holds P Q (Some value) not holds = absurd (not value refl)
 
--- ---- one band, and the steps of these loops, whose array and directory are still those of the start
+-- ---- one band, and the steps of these loops, whose array is still that of the start
+
+module _ {R : Type 0} (layout : Layout) (directory : Directory R) (region : Box) where
+  pub bytes_one : (held : ArrayData) (old new : Option (List ℕ)) → ReadsCells layout directory region held → WritesRaw held old new
+      → WritesBytes layout directory (positions region) old new
+  bytes_one held old new reads writes = record {
+    bytes = writes.bytes;
+    cells = cells_one layout directory region writes.bytes (subst (ReadsCells layout directory region) writes.are reads);
+    written = writes.written;
+  }
+
+  pub lines_one : (form : Form) (size width column after : ℕ) (held : ArrayData) (bytes : List ℕ) (old new : Option (List ℕ)) → held ≡ fixed bytes
+      → ReadsCells layout directory region held → WritesCells form size width column after bytes old new
+      → WritesLines layout directory form size width column after (positions region) old new
+  lines_one form size width column after held bytes old new are reads writes = record {
+    bytes = bytes;
+    cells = cells_one layout directory region bytes (subst (ReadsCells layout directory region) are reads);
+    written = writes;
+  }
 
 module _ {R : Type 0} (layout other : Layout) where
-  module _ (directory : Directory R) (region : Box) (store : DirectoryStore R) where
-    pub bytes_one : (held : ArrayData) (old new : Option (List ℕ)) → other ≡ layout → ReadsCells other region store held
-        → HasReadOnly layout (chunks_met layout.grid region) store → directory_of store ≡ directory → WritesRaw held old new
-        → WritesBytes layout directory (positions region) old new
-    bytes_one held old new same_layout reads only same writes =
-        let read = subst (λ (d : ArrayData). ReadsCells other region store d) writes.are reads in
-        record {
-          bytes = writes.bytes;
-          cells = cells_one layout directory region writes.bytes store (subst (λ (l : Layout). ReadsCells l region store (fixed writes.bytes)) same_layout read) only same;
-          written = writes.written;
-        }
-
-    pub lines_one : (form : Form) (size width column after : ℕ) (held : ArrayData) (bytes : List ℕ) (old new : Option (List ℕ)) → other ≡ layout → held ≡ fixed bytes
-        → ReadsCells other region store held → HasReadOnly layout (chunks_met layout.grid region) store → directory_of store ≡ directory
-        → WritesCells form size width column after bytes old new → WritesLines layout directory form size width column after (positions region) old new
-    lines_one form size width column after held bytes old new same_layout are reads only same writes =
-        let read = subst (λ (d : ArrayData). ReadsCells other region store d) are reads in
-        record {
-          bytes = bytes;
-          cells = cells_one layout directory region bytes store (subst (λ (l : Layout). ReadsCells l region store (fixed bytes)) same_layout read) only same;
-          written = writes;
-        }
-
-  module _ (directory place : Directory R) where
-    pub bytes_more : (done band : List (List ℕ)) (old between new : Option (List ℕ)) → other ≡ layout → place ≡ directory → WritesBytes layout directory done old between
-        → WritesBytes other place band between new → WritesBytes layout directory (done ++ band) old new
-    bytes_more done band old between new same_layout same_place first then =
-        bytes_both layout directory done band old between new first
-        (subst (λ (l : Layout). WritesBytes l directory band between new) same_layout (subst (λ (d : Directory R). WritesBytes other d band between new) same_place then))
-
-    pub lines_more : (form : Form) (size width column middle after : ℕ) (done band : List (List ℕ)) (old between new : Option (List ℕ)) → other ≡ layout → place ≡ directory
-        → WritesLines layout directory form size width column middle done old between → WritesLines other place form size width middle after band between new
-        → WritesLines layout directory form size width column after (done ++ band) old new
-    lines_more form size width column middle after done band old between new same_layout same_place first then =
-        lines_both layout directory form size width column middle after done band old between new first
-        (subst (λ (l : Layout). WritesLines l directory form size width middle after band between new) same_layout
-        (subst (λ (d : Directory R). WritesLines other d form size width middle after band between new) same_place then))
-
   pub stored_more : (done band : List (List ℕ)) (input middle left : Option (List ℕ)) (old between new : DirectoryStore R) → other ≡ layout
       → StoresBytes layout done input middle old between → StoresBytes other band middle left between new → StoresBytes layout (done ++ band) input left old new
   stored_more done band input middle left old between new same first then =

@@ -1,5 +1,5 @@
 -- How many bytes cells have, and so what is stored of what was written.
-use Rattle.std.proofs.Common.{◌≡◌, ℕ, zero, suc, ◌+◌, ◌*◌, ◌/◌, ◌<◌, ◌≤◌, Bool, true, false, cond, ◌&&◌, leb, slice_index_or, List, [], ◌∷◌, ◌++◌, length, take, Option, Some, None, option_and_then, drop, refl, sym, ap, ◌∙◌, subst, arith, append_assoc, length-append}
+use Rattle.std.proofs.Common.{◌≡◌, ℕ, zero, suc, ◌+◌, ◌*◌, ◌/◌, ◌<◌, ◌≤◌, Bool, true, false, cond, ◌&&◌, leb, slice_index_or, List, [], ◌∷◌, ◌++◌, length, take, Option, Some, None, drop, refl, sym, ap, ◌∙◌, subst, arith, append_assoc, length-append}
 use Rattle.std.specs.Prelude.{◌^◌, bytes_eq}
 use Rattle.std.specs.List.{All, flat_map}
 use Rattle.std.specs.Int.{w16, w64, from_le_bytes, to_le_bytes}
@@ -19,7 +19,7 @@ use Rattle.zarrs_data_type.specs.Cells.{cells}
 use Rattle.zarrs_data_type_bytes.proofs.Cells.{cells-parts}
 use Rattle.zarrs_data_type_bytes.proofs.Filled.{fits-fixed}
 use Rattle.zarrs_subset.specs.Boxes.{position_count}
-use Rattle.zarrs_subset.specs.Regions.{Box, IsLong, positions}
+use Rattle.zarrs_subset.specs.Regions.{IsLong, positions}
 use Rattle.zarrs_subset.proofs.Positions.{length-positions}
 use Rattle.zarrs_engine_calls.specs.Layout.{Layout}
 use Rattle.zarrs_directory.specs.declared.files.Directory.{Directory}
@@ -30,7 +30,7 @@ use Rattle.zarr_cells.specs.Lines.{first_cell, cells_in, behind, next, joined, e
 use Rattle.zarr_cells.specs.Laws.{LinesAreReadBack, RawIsReadBack}
 use Rattle.zarr_cells.specs.Npy.{header_bytes}
 use Rattle.zarr_cells.proofs.WordLemmas.{appends_both}
-use Rattle.zarr_regions.specs.Cells.{Band, Make, IsRead, AreCells, WritesBytes, WritesLines, StoresBands, StoresPlaces, StoresBytes, StoresLines}
+use Rattle.zarr_regions.specs.Cells.{Band, Make, AreCells, StoresBands, StoresPlaces}
 use Rattle.zarr_regions.specs.Laws.{BytesArePutBack, LinesArePutBack, NpyIsPutBack}
 
 -- ---- how many bytes the cells of bands have

@@ -5,13 +5,11 @@ use Rattle.std.specs.Io.KnownBytes.{Appends, Consumes}
 use Rattle.zarrs_data_type.specs.ArrayData.{fixed}
 use Rattle.zarrs_subset.specs.Regions.{Box, positions}
 use Rattle.zarrs_engine_calls.specs.Layout.{Layout}
-use Rattle.zarrs_engine_calls.specs.ChunkBoxes.{chunks_met}
-use Rattle.zarrs_directory.specs.Directory.{directory_of}
 use Rattle.zarrs_directory.specs.declared.files.Directory.{Directory}
 use Rattle.zarrs_directory.specs.declared.store.DirectoryStore.{DirectoryStore}
 use Rattle.zarr_cells.specs.Lines.{WritesCells, ReadsCells as ReadsLines, column_after}
 use Rattle.zarr_cells.specs.declared.form.Form.{Form}
-use Rattle.zarr_arrays.specs.Reading.{HasReadOnly, ReadsCells}
+use Rattle.zarr_arrays.specs.Reading.{ReadsCells}
 use Rattle.zarr_arrays.specs.Storing.{StoresCells}
 
 -- a band: its region, and the bytes of its cells
@@ -27,12 +25,9 @@ pub record Make (places : List (List ℕ)) (bytes : List ℕ) (bands : List Band
 module _ {R : Type 0} (layout : Layout) where
   -- ---- cells that are read
 
-  -- the bytes are those of the band's cells, as the chunks say them of which each was read of the directory, and no other
-  pub record IsRead (directory : Directory R) (band : Band) : Type 0 where
-    pub store : DirectoryStore R
-    pub cells : ReadsCells layout band.region store (fixed band.bytes)
-    pub only : HasReadOnly layout (chunks_met layout.grid band.region) store
-    pub same : directory_of store ≡ directory
+  -- the bytes are those of the band's cells, as the chunks say them of whose files in the directory so much was read
+  abbrev pub IsRead : Directory R → Band → Type 0
+  IsRead directory band = ReadsCells layout directory band.region (fixed band.bytes)
 
   -- the bytes are those of the cells at these places, one behind the other, in bands
   pub record AreCells (directory : Directory R) (places : List (List ℕ)) (bytes : List ℕ) : Type 0 where

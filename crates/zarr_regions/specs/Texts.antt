@@ -1,6 +1,6 @@
 -- Regions in the forms that are written and read: lines, bytes, and bytes behind numpy's header.
 use Rattle.std.specs.Prelude.{◌≡◌, ◌==◌, ℕ, ◌-◌, List, Option, Some, IfSome, length, slice_index, if◌then◌else◌}
-use Rattle.std.specs.Io.KnownBytes.{Appends, Consumes}
+use Rattle.std.specs.Io.KnownBytes.{Appends}
 use Rattle.zarrs_data_type.specs.Kind.{Kind, element_size}
 use Rattle.zarrs_subset.specs.Regions.{Box, positions}
 use Rattle.zarrs_engine_calls.specs.Layout.{Layout}

@@ -13,7 +13,7 @@ use zarr_cells::{Rows, form_of, npy, raw_size, read_cells, read_raw, read_texts}
 use zarrs::{ArrayBytes, ArraySubset};
 use zarrs_data_type::VariableLengthBuilder;
 
-/// Stores the cells of a band that the input has as lines, from the column on. Returns the column behind them.
+/// Stores the cells of a band that the input has as lines, from the column on. Returns the column after them.
 fn store_band_lines<R: BufRead>(
     alloc: Global,
     input: &mut R,
@@ -54,7 +54,7 @@ fn store_lines<R: BufRead>(
     Ok(column)
 }
 
-/// Stores the texts of a band that the input has in lines of so many, from the column on. Returns the column behind them.
+/// Stores the texts of a band that the input has in lines of `width`, from the column on. Returns the column after them.
 fn store_band_texts<R: BufRead>(
     alloc: Global,
     input: &mut R,
@@ -70,7 +70,7 @@ fn store_band_texts<R: BufRead>(
     Ok(after)
 }
 
-/// Stores the texts of the region that the input has in lines of so many, in row-major order and band by band.
+/// Stores the texts of the region that the input has in lines of `width`, in row-major order and band by band.
 fn store_text_lines<R: BufRead>(
     alloc: Global,
     input: &mut R,
@@ -168,7 +168,7 @@ fn read_header<R: Read>(
     Ok(())
 }
 
-/// Stores the cells of the region whose bytes the input has behind numpy's header.
+/// Stores the cells of the region whose bytes the input has after numpy's header.
 fn store_npy<R: Read>(
     alloc: Global,
     input: &mut R,
@@ -184,11 +184,19 @@ fn store_npy<R: Read>(
     Ok(())
 }
 
-/// Returns whether the line that is next is blank.
+/// Returns whether nothing but blanks is left.
 fn is_blank<R: BufRead>(alloc: Global, input: &mut R) -> Result<bool, Refusal> {
     let mut line = Vec::new(alloc);
-    input.read_until(b'\n', &mut line)?;
-    Ok(line.trim_ascii().is_empty())
+    for _ in 0..u64::MAX {
+        line.clear();
+        if input.read_until(b'\n', &mut line)? == 0 {
+            break;
+        }
+        if !line.trim_ascii().is_empty() {
+            return Ok(false);
+        }
+    }
+    Ok(true)
 }
 
 /// Returns whether nothing is left.
@@ -197,7 +205,7 @@ fn is_at_end<R: Read>(input: &mut R) -> Result<bool, Refusal> {
     Ok(input.read(&mut byte)? == 0)
 }
 
-/// Refuses input that is left over, but for blanks behind lines.
+/// Refuses input that is left over, except blanks after lines.
 fn need_end<R: BufRead>(alloc: Global, input: &mut R, layout: Layout) -> Result<(), Refusal> {
     let is_end = match layout {
         Layout::Lines => is_blank(alloc, input)?,

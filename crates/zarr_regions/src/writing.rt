@@ -24,20 +24,18 @@ fn bytes_of<'c>(alloc: Global, cells: &'c ArrayBytes<'_>) -> Result<&'c [u8], Re
     }
 }
 
-/// Writes the cells of a band as lines, from the column on. Returns the column behind them.
+/// Writes the cells of a band as lines, from the column on. Returns the column after them.
 fn write_band_lines<W: Write>(
     alloc: Global,
     out: &mut W,
-    opened: &mut Opened<'_>,
+    opened: &Opened<'_>,
     rows: &Rows,
     column: u64,
     band: &ArraySubset,
 ) -> Result<u64, Refusal>
-    ensures written { IfOk result (λ after. WritesLines (layout_of_array opened.old.array)
-        (directory_of opened.old.store) rows.now.form rows.now.size rows.now.width column after
+    ensures { IfOk result (λ after. WritesLines (layout_of_array opened.now.array)
+        (directory_of opened.now.store) rows.now.form rows.now.size rows.now.width column after
         (positions (box_of band.now)) (W.contents out.old) (W.contents out.new)) }
-    ensures array { opened.new.array ≡ opened.old.array }
-    ensures directory { OnOk result (directory_of opened.new.store ≡ directory_of opened.old.store) }
 {
     let cells = opened.cells(alloc, band)?;
     let bytes = bytes_of(alloc, &cells)?;
@@ -49,12 +47,12 @@ fn write_band_lines<W: Write>(
 fn write_lines<W: Write>(
     alloc: Global,
     out: &mut W,
-    opened: &mut Opened<'_>,
+    opened: &Opened<'_>,
     rows: &Rows,
     region: ArraySubset,
 ) -> Result<u64, Refusal>
-    ensures { IfOk result (λ after. WritesLines (layout_of_array opened.old.array)
-        (directory_of opened.old.store) rows.now.form rows.now.size rows.now.width 0 after
+    ensures { IfOk result (λ after. WritesLines (layout_of_array opened.now.array)
+        (directory_of opened.now.store) rows.now.form rows.now.size rows.now.width 0 after
         (positions (box_of region)) (W.contents out.old) (W.contents out.new)) }
 {
     let mut column = 0;
@@ -65,11 +63,11 @@ fn write_lines<W: Write>(
     Ok(column)
 }
 
-/// Writes the texts of the region as lines of so many, in row-major order and band by band.
+/// Writes the texts of the region as lines of `width`, in row-major order and band by band.
 fn write_text_lines<W: Write>(
     alloc: Global,
     out: &mut W,
-    opened: &mut Opened<'_>,
+    opened: &Opened<'_>,
     width: u64,
     region: ArraySubset,
 ) -> Result<(), Refusal> {
@@ -90,11 +88,11 @@ fn write_text_lines<W: Write>(
 fn write_text<W: Write>(
     alloc: Global,
     out: &mut W,
-    opened: &mut Opened<'_>,
+    opened: &Opened<'_>,
     region: ArraySubset,
 ) -> Result<(), Refusal>
-    ensures { OnOk result (WritesText (layout_of_array opened.old.array)
-        (directory_of opened.old.store) opened.old.lens.floats (box_of region)
+    ensures { OnOk result (WritesText (layout_of_array opened.now.array)
+        (directory_of opened.now.store) opened.now.lens.floats (box_of region)
         (W.contents out.old) (W.contents out.new)) }
 {
     let width = line_width(&region);
@@ -114,14 +112,12 @@ fn write_text<W: Write>(
 fn write_band_bytes<W: Write>(
     alloc: Global,
     out: &mut W,
-    opened: &mut Opened<'_>,
+    opened: &Opened<'_>,
     band: &ArraySubset,
 ) -> Result<(), Refusal>
-    ensures written { OnOk result (WritesBytes (layout_of_array opened.old.array)
-        (directory_of opened.old.store) (positions (box_of band.now))
+    ensures { OnOk result (WritesBytes (layout_of_array opened.now.array)
+        (directory_of opened.now.store) (positions (box_of band.now))
         (W.contents out.old) (W.contents out.new)) }
-    ensures array { opened.new.array ≡ opened.old.array }
-    ensures directory { OnOk result (directory_of opened.new.store ≡ directory_of opened.old.store) }
 {
     let cells = opened.cells(alloc, band)?;
     write_raw(alloc, out, &cells)?;
@@ -132,11 +128,11 @@ fn write_band_bytes<W: Write>(
 fn write_bytes<W: Write>(
     alloc: Global,
     out: &mut W,
-    opened: &mut Opened<'_>,
+    opened: &Opened<'_>,
     region: ArraySubset,
 ) -> Result<(), Refusal>
-    ensures { OnOk result (WritesBytes (layout_of_array opened.old.array)
-        (directory_of opened.old.store) (positions (box_of region))
+    ensures { OnOk result (WritesBytes (layout_of_array opened.now.array)
+        (directory_of opened.now.store) (positions (box_of region))
         (W.contents out.old) (W.contents out.new)) }
 {
     let mut bands = Bands::of(alloc, region)?;
@@ -170,11 +166,11 @@ fn write_header<W: Write>(
 fn write_npy<W: Write>(
     alloc: Global,
     out: &mut W,
-    opened: &mut Opened<'_>,
+    opened: &Opened<'_>,
     region: ArraySubset,
 ) -> Result<(), Refusal>
-    ensures { OnOk result (WritesNpy (layout_of_array opened.old.array)
-        (directory_of opened.old.store) opened.old.lens.floats (box_of region)
+    ensures { OnOk result (WritesNpy (layout_of_array opened.now.array)
+        (directory_of opened.now.store) opened.now.lens.floats (box_of region)
         (W.contents out.old) (W.contents out.new)) }
 {
     write_header(alloc, out, opened, &region)?;
@@ -189,12 +185,12 @@ fn write_npy<W: Write>(
 pub fn write_cells<W: Write>(
     alloc: Global,
     out: &mut W,
-    opened: &mut Opened<'_>,
+    opened: &Opened<'_>,
     region: ArraySubset,
     layout: Layout,
 ) -> Result<(), Refusal>
-    ensures { OnOk result (WritesRegion (layout_of_array opened.old.array)
-        (directory_of opened.old.store) opened.old.lens.floats (box_of region) layout
+    ensures { OnOk result (WritesRegion (layout_of_array opened.now.array)
+        (directory_of opened.now.store) opened.now.lens.floats (box_of region) layout
         (W.contents out.old) (W.contents out.new)) }
 {
     match layout {

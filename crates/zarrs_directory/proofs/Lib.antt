@@ -1,2 +1,3 @@
+pub mod ExcerptLemmas
 pub mod NameLemmas
 pub mod StoreLemmas

@@ -20,7 +20,7 @@ use Rattle.zarrs_storage.proofs.MemoryLemmas.{inserted}
 use Rattle.zarrs_storage.proofs.ValuesLemmas.{get_inserted, get_removed}
 use Rattle.zarrs_directory.specs.Directory.{has_key, KeepsKeys, KeepsOtherValues}
 
-apart : (q k : List ℕ) → (q ≡ k → ⊥) → bytes_eq q k ≡ false
+pub apart : (q k : List ℕ) → (q ≡ k → ⊥) → bytes_eq q k ≡ false
 apart q k h = elim (cases_Bool (bytes_eq q k)) [ inl same ↦ absurd (h ((bytes_eq-Decides q k).0 same)) | inr other ↦ other ]
 
 -- ---- values

@@ -1,15 +1,17 @@
 //! The files of a directory.
-ghost use Rattle.std.specs.Prelude.{◌≡◌, string_bytes, IfErr, IfOk, OnOk};
+ghost use Rattle.std.specs.Prelude.{◌≡◌, length, string_bytes, IfErr, IfOk, IfSome, OnOk};
 ghost use Rattle.std.specs.List.{All};
 ghost use Rattle.zarrs_directory.specs.Directory.{IsName, names_of, path_below, root_of};
 ghost use Rattle.zarrs_directory.specs.Directory.{RefusesFile, SaysKey};
+ghost use Rattle.zarrs_directory.specs.Excerpts.{HasWanted};
 
+use crate::excerpt::{Excerpt, Wanted};
 use crate::names::{is_path, joined};
 use std::alloc::{AllocError, Global};
 use std::fs::{self, File, OpenFile};
-use std::io::{self, ErrorKind, Read, Write};
+use std::io::{self, ErrorKind, Read, Seek, SeekFrom, Write};
 use std::rt::Files;
-use zarrs_storage::{StorageError, StoreKey};
+use zarrs_storage::{Bytes, StorageError, StoreKey};
 
 /// A directory, whose files are read and replaced by their keys.
 #[derive(Drop)]
@@ -42,12 +44,45 @@ fn refusal(alloc: Global, key: &StoreKey, error: io::Error) -> StorageError
 }
 
 /// Returns the bytes of the file. Room is made once: for all of them, and for one more, by which the end is found.
-fn read_whole<R: Files + AllocGlobal>(files: &R, path: &str) -> io::Result<Vec<u8>> {
+fn read_whole<F: Read>(alloc: Global, file: &mut F, size: u64) -> io::Result<Bytes> {
+    let mut bytes = Vec::with_capacity(alloc, (size as usize).saturating_add(1))?;
+    file.read_to_end(&mut bytes)?;
+    Ok(Bytes::from_vec(bytes)?)
+}
+
+/// Returns so many bytes of the file, from `start` on.
+fn read_range<F: Read + Seek>(
+    alloc: Global,
+    file: &mut F,
+    start: u64,
+    count: u64,
+) -> io::Result<Bytes>
+    ensures { IfOk result (λ bytes. length bytes ≡ count) }
+{
+    let mut bytes = Vec::new(alloc);
+    bytes.resize(count as usize, 0)?;
+    file.seek(SeekFrom::Start(start))?;
+    file.read_exact(&mut bytes)?;
+    Ok(Bytes::from_vec(bytes)?)
+}
+
+/// Reads the places of the file that are wanted, if it has as many bytes as was said, and otherwise all.
+fn read_excerpt<R: Files + AllocGlobal>(
+    files: &R,
+    path: &str,
+    wanted: Option<Wanted>,
+) -> io::Result<Excerpt>
+    ensures { IfOk result (HasWanted wanted) }
+{
     let mut file = File::open(files, path)?;
     let size = file.metadata()?.len();
-    let mut bytes = Vec::with_capacity(files.alloc(), (size as usize).saturating_add(1))?;
-    file.read_to_end(&mut bytes)?;
-    Ok(bytes)
+    match wanted {
+        Some(part) if part.size == size && part.start <= part.end && part.end <= size => {
+            let bytes = read_range(files.alloc(), &mut file, part.start, part.end - part.start)?;
+            Ok(Excerpt::part(size, part.start, bytes))
+        }
+        _ => Ok(Excerpt::whole(read_whole(files.alloc(), &mut file, size)?)),
+    }
 }
 
 /// Makes the folder that the file lies in.
@@ -129,10 +164,17 @@ impl<'r, R: Files + AllocGlobal> Directory<'r, R> {
         Ok(path)
     }
 
-    fn read_file(&self, alloc: Global, key: &StoreKey) -> io::Result<Option<Vec<u8>>> {
+    fn read_file(
+        &self,
+        alloc: Global,
+        key: &StoreKey,
+        wanted: Option<Wanted>,
+    ) -> io::Result<Option<Excerpt>>
+        ensures { IfOk result (λ found. IfSome found (HasWanted wanted)) }
+    {
         let path = self.path_of(alloc, key)?;
-        match read_whole(self.rt, path.as_str()) {
-            Ok(bytes) => Ok(Some(bytes)),
+        match read_excerpt(self.rt, path.as_str(), wanted) {
+            Ok(excerpt) => Ok(Some(excerpt)),
             Err(error) if is_absent(&error) => Ok(None),
             Err(error) => Err(error),
         }
@@ -160,15 +202,21 @@ impl<'r, R: Files + AllocGlobal> Directory<'r, R> {
         }
     }
 
-    /// Returns the bytes of the file at the key, or `None` if there is no file.
+    /// Returns what is wanted of the file at the key, or `None` if there is no file.
     ///
     /// # Errors
     /// `Other` with the key and the system's text, if the file cannot be read or the key is no path; `OutOfMemory`.
-    pub fn read(&self, alloc: Global, key: &StoreKey) -> Result<Option<Vec<u8>>, StorageError>
-        ensures { IfErr result (RefusesFile key.now) }
+    pub fn read(
+        &self,
+        alloc: Global,
+        key: &StoreKey,
+        wanted: Option<Wanted>,
+    ) -> Result<Option<Excerpt>, StorageError>
+        ensures found { IfOk result (λ found. IfSome found (HasWanted wanted)) }
+        ensures refused { IfErr result (RefusesFile key.now) }
     {
-        match self.read_file(alloc, key) {
-            Ok(bytes) => Ok(bytes),
+        match self.read_file(alloc, key, wanted) {
+            Ok(found) => Ok(found),
             Err(error) => Err(refusal(alloc, key, error)),
         }
     }

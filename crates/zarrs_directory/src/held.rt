@@ -38,7 +38,7 @@ pub(crate) fn remove_value(values: &mut BTreeMap<StoreKey, Bytes>, key: &StoreKe
 ///
 /// # Errors
 /// `AllocError`: out of memory. Nothing is changed then.
-fn note(read: &mut BTreeSet<StoreKey>, key: &StoreKey) -> Result<(), AllocError>
+pub(crate) fn note(read: &mut BTreeSet<StoreKey>, key: &StoreKey) -> Result<(), AllocError>
     ensures noted { OnOk result (has_key read.new key.now ≡ true) }
     ensures keys { OnOk result (KeepsKeys read.old read.new key.now) }
     ensures kept { OnErr result ((other : List ℕ) → has_key read.new other ≡ has_key read.old other) }

@@ -10,6 +10,7 @@ ghost use Rattle.zarrs_directory.specs.Directory.{Forgets, IsNew, ReadsKey, Stay
 ghost use Rattle.zarrs_directory.specs.Directory.{RefusesFile, RefusesWriting};
 
 use crate::caching::Cache;
+use crate::excerpt::Excerpt;
 use crate::files::Directory;
 use std::alloc::{AllocError, Global};
 use std::rt::Files;
@@ -66,11 +67,8 @@ impl<'r, R: Files + AllocGlobal> DirectoryStore<'r, R> {
         if self.has_read(key) {
             return Ok(());
         }
-        let value = match self.directory.read(alloc, key)? {
-            Some(bytes) => Some(Bytes::from_vec(bytes)?),
-            None => None,
-        };
-        self.cache.hold(key, value)?;
+        let found = self.directory.read(alloc, key, None)?;
+        self.cache.hold(key, found.map(Excerpt::into_bytes))?;
         Ok(())
     }
 

@@ -75,6 +75,6 @@ pub fn files_below<R: Files + AllocGlobal + Clone + Drop>(
             None => break,
         }
     }
-    let _ = found.sort_by(|one, other| one.key.cmp(&other.key));
+    found.sort_by(|one, other| one.key.cmp(&other.key))?;
     Ok(found)
 }

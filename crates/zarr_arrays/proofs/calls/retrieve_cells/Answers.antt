@@ -1,4 +1,3 @@
-use Rattle.std.proofs.Common.{refl}
 use Rattle.zarrs_data_type.specs.ArrayData.{data_of}
 use Rattle.zarrs_subset.specs.Regions.{box_of}
 use Rattle.zarrs.specs.Arrays.{layout_of_array}
@@ -8,7 +7,7 @@ use Rattle.zarr_arrays.proofs.calls.retrieve_cells.Goals as goal
 pub retrieve_array_subset-cells-requires : goal.retrieve_array_subset-cells-requires
 retrieve_array_subset-cells-requires c = λ covered.
     reads_at (layout_of_array c.in_ok-array.array) (layout_of_array c.args.array.now) _ _ (box_of c.args.region.now) c.in_ok-array.ensures.layout c.in_ok-array.ensures.store
-    (λ key place. refl) c.requires
+    c.requires
 
 pub returns : goal.returns
 returns c =

@@ -1,4 +1,4 @@
-use Rattle.std.proofs.Common.{◌≡◌, List, ℕ}
+use Rattle.std.proofs.Common.{List, ℕ}
 use Rattle.zarrs_subset.specs.Regions.{box_of, positions}
 use Rattle.zarrs.specs.Arrays.{layout_of_array}
 use Rattle.zarrs_directory.specs.Directory.{directory_of}
@@ -8,15 +8,11 @@ use Rattle.zarr_regions.proofs.BandLemmas.{Front}
 use Rattle.zarr_regions.proofs.writing.write_lines.Given as goal
 
 abbrev pub invariant-loop-bands : goal.invariant-loop-bands
-invariant-loop-bands g l = record {
-  front :
-      Front
-      (λ (done : List (List ℕ)). WritesLines (layout_of_array l.initial.opened.array) (directory_of l.initial.opened.store) l.rows.form l.rows.size l.rows.width 0 l.column done
-      (g.W.Write.contents l.initial.out) (g.W.Write.contents l.out))
-      (places_left l.bands) (positions (box_of l.fn.region));
-  array : l.opened.array ≡ l.initial.opened.array;
-  directory : directory_of l.opened.store ≡ directory_of l.initial.opened.store;
-}
+invariant-loop-bands g l =
+    Front
+    (λ (done : List (List ℕ)). WritesLines (layout_of_array l.opened.array) (directory_of l.opened.store) l.rows.form l.rows.size l.rows.width 0 l.column done
+    (g.W.Write.contents l.initial.out) (g.W.Write.contents l.out))
+    (places_left l.bands) (positions (box_of l.fn.region))
 
 abbrev pub decreases-loop-bands : goal.decreases-loop-bands
 decreases-loop-bands g l = count_left l.bands
