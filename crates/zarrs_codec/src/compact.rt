@@ -9,7 +9,7 @@ use crate::sharding::ShardingCodec;
 use std::alloc::Global;
 use zarrs_codec_array::encoded_shape;
 use zarrs_codec_leaf::{CodecError, Misfit};
-use zarrs_codec_shard::{CompactError, Subchunks, compact_shard};
+use zarrs_codec_shard::{CompactError, LentSubchunks, compact_shard};
 
 impl CodecChain {
     /// The bytes of the same cells without what no cell needs, or `None` if those are the same bytes.
@@ -49,7 +49,7 @@ impl ShardingCodec {
             encoded.now) }
     {
         let sub = self.extents(alloc)?;
-        let Some(subchunks) = Subchunks::new(alloc, shape, &sub)? else {
+        let Some(subchunks) = LentSubchunks::new(alloc, shape, &sub)? else {
             return Err(CodecError::DoesNotFit(Misfit::TypeOrShape));
         };
         let Some(count) = subchunks.count() else {

@@ -229,7 +229,7 @@ fn lent_cells<'a>(encoded: &'a [u8], chunk: &ChunkType<'_>) -> Result<ArrayBytes
     Ok(data)
 }
 
-/// Whether each subchunk is there.
+/// Whether each subchunk is present.
 fn are_present(ranges: &[Option<SubchunkRange>]) -> bool
     ensures { result ≡ list_all is_some ranges.now }
 {

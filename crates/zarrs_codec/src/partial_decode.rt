@@ -11,6 +11,7 @@ ghost use Rattle.zarrs_codec_chain.specs.Chunks.{HoldsPart, RefusesToDecodePart,
 ghost use Rattle.zarrs_codec_chain.specs.OpenShards.{read_of};
 ghost use Rattle.zarrs_codec_chain.specs.Places.{all_places};
 ghost use Rattle.zarrs_codec_chain.specs.ShardParts.{MeetsPart};
+ghost use Rattle.zarrs_codec_chain.specs.ShardReads.{IsSole};
 ghost use Rattle.zarrs_codec_chain.specs.Stored.{MayReadOf, bytes_of, refuses_of};
 ghost use Rattle.zarrs_codec.specs.Chains.{chain_meaning, inner_chain_of, sharding_meaning};
 ghost use Rattle.zarrs_codec.specs.ShardChunks.{DecodesEach, DecodesOne, DecodesWhole, HasParts};
@@ -22,7 +23,9 @@ use crate::codec::ArrayToBytesCodec;
 use crate::sharding::ShardingCodec;
 use crate::sizes::is_counted;
 use std::alloc::Global;
-use zarrs_codec_chain::{PartError, ShardPart, Stored, part_of_whole, partial_decode_bytes};
+use zarrs_codec_chain::{
+    PartError, ShardPart, SoleSubchunk, Stored, part_of_whole, partial_decode_bytes,
+};
 use zarrs_codec_leaf::{ByteSource, CodecError, Misfit};
 use zarrs_data_type::{ArrayBytes, CellType, ChunkType, RegionCells};
 use zarrs_subset::ArraySubset;
@@ -172,17 +175,42 @@ impl ShardingCodec {
             (λ _. DecodesEach self.now cell_type.now (read_of read.now)) }
         ensures refused { IfErr result (RefusesReads self.now cell_type.now (read_of read.now)) }
     {
-        let met = read.met(alloc)?;
         // The cells of a part that lies in one subchunk are put into no other data.
-        if met.shape().iter().all(|count| *count == 1) {
-            let found = self.decode_piece(alloc, read, cell_type, met.start())?;
-            if let Some(piece) = found {
-                if piece.shared == *read.part {
-                    return Ok(piece.cells);
-                }
+        if let Some(sole) = read.sole(alloc)? {
+            if let Some(cells) = self.decode_sole(alloc, read, cell_type, &sole)? {
+                return Ok(cells);
             }
         }
+        let met = read.met(alloc)?;
         self.read_subchunks(alloc, read, cell_type, &met)
+    }
+
+    /// The cells of a part of a shard that lies in one subchunk, or `None` if that is absent.
+    #[cycle(partial_decode)]
+    fn decode_sole<B: ByteSource>(
+        &self,
+        alloc: Global,
+        read: &ShardPart<'_, '_, B>,
+        cell_type: &CellType,
+        sole: &SoleSubchunk,
+    ) -> Result<Option<ArrayBytes<'static>>, PartError>
+        requires size { IsCounted cell_type.now (read_of read.now) }
+        requires sole { IsSole (read_of read.now) sole.now.number (box_of sole.now.own) }
+        ensures all { IfOk result (λ made. IfSome made (λ cells. HasParts self.now cell_type.now
+            (read_of read.now) (data_of cells))) }
+        ensures whole { (read_of read.now).part.shape ≡ (read_of read.now).shape → IfOk result
+            (λ made. IfSome made (λ _. DecodesEach self.now cell_type.now (read_of read.now))) }
+        ensures refused { IfErr result (RefusesReads self.now cell_type.now (read_of read.now)) }
+    {
+        let Some(stored) = read.subchunk(sole.number) else {
+            return Ok(None);
+        };
+        let inner = ChunkType {
+            cell_type,
+            shape: read.subchunk_shape(),
+        };
+        let cells = self.partial_decode_inner(alloc, &stored, &sole.own, &inner)?;
+        Ok(Some(cells))
     }
 
     /// The cells of the subchunks that a part of a shard meets, put into data of the part that is all fill. `met` is the

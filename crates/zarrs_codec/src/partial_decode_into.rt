@@ -25,8 +25,8 @@ use zarrs_data_type::{ArrayBytesDecodeIntoTarget, CellType, ChunkType, copy_fill
 use zarrs_subset::ArraySubset;
 
 impl CodecChain {
-    /// Decodes a part of a chunk that is stored as these bytes, and has the shape of the target's box, into the box. Every
-    /// byte outside the box stays; after a refusal the inside is open.
+    /// Decodes a part of a chunk that is stored as these bytes, and has the shape of the target's box, into the box.
+    /// Every byte outside the box stays; after a refusal the bytes inside may be anything.
     #[cycle(partial_decode_into)]
     pub(crate) fn partial_decode_chunk_into<B: ByteSource>(
         &self,

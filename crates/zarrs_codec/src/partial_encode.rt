@@ -316,7 +316,7 @@ fn refusal_of_index(stored: Option<&[u8]>) -> CodecError
     }
 }
 
-/// Whether one of the subchunks is there.
+/// Whether one of the subchunks is present.
 fn has_present(ranges: &[Option<SubchunkRange>]) -> bool
     ensures { result ≡ list_any is_some ranges.now }
 {

@@ -6,13 +6,14 @@ ghost use Rattle.zarrs_codec_optional.specs.ShardingMetadata.{sizes_of};
 use crate::chain::CodecChain;
 use std::alloc::{AllocError, Global};
 use std::num::NonZeroU64;
+use zarrs_subset::ArrayIndicesTinyVec;
 
 /// Where the index of a shard stands.
 #[derive(Clone, Copy, Debug, Drop, PartialEq, Eq)]
 pub enum ShardingIndexLocation {
     /// Before the subchunks.
     Start,
-    /// Behind the subchunks.
+    /// After the subchunks.
     End,
 }
 
@@ -73,8 +74,8 @@ impl ShardingCodec {
         &self.inner
     }
 
-    /// The extents of each subchunk as numbers.
-    pub(crate) fn extents(&self, alloc: Global) -> Result<Vec<u64>, AllocError>
+    /// The extents of each subchunk as numbers. Nothing is allocated up to four dimensions.
+    pub(crate) fn extents(&self, alloc: Global) -> Result<ArrayIndicesTinyVec, AllocError>
         ensures { IfOk result (λ extents. extents.items ≡ sizes_of (subchunk_sizes_of self.now)) }
     {
         self.subchunk_shape

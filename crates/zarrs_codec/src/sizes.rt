@@ -7,7 +7,7 @@ ghost use Rattle.zarrs_data_type.specs.Kind.{kind, cell_size};
 use zarrs_data_type::DataType;
 use zarrs_subset::element_count;
 
-/// Whether a `usize` counts the bytes that the cells of a chunk of this shape take in memory at least.
+/// Whether the least number of bytes that the cells of a chunk of this shape take in memory fits `u64`.
 pub(crate) fn is_counted(shape: &[u64], data_type: &DataType) -> bool
     ensures counted { OnTrue result (position_count shape.now * cell_size (kind data_type.now)
         < 2 ^ 64) }

@@ -141,6 +141,38 @@ overlap_inside region chunk long chunk_long lies =
     (λ k lt. lies.ends k (omega (arith, lies.same_length))) in
     ap (λ s. record { start = s; shape = overlap_extents region.start region.shape chunk.start chunk.shape }) start ∙ ap (λ x. record { start = chunk.start; shape = x }) extents
 
+start_within : (R C : List ℕ) → length R ≡ length C → ((k : ℕ) → k < length R → slice_index C k ≤ slice_index R k) → overlap_start R C ≡ R
+start_within [] [] same below = refl
+start_within [] (c ∷ C) same below = absurd (omega arith)
+start_within (r ∷ R) [] same below = absurd (omega arith)
+start_within (r ∷ R) (c ∷ C) same below =
+    let low : c ≤ r = below 0 (omega arith) in
+    let first : max r c ≡ r = omega arith in
+    ap (λ x. x ∷ overlap_start R C) first ∙ ap (λ l. r ∷ l) (start_within R C (omega arith) (λ k lt. below (suc k) (omega arith)))
+
+extents_within : (R X C Y : List ℕ) → length X ≡ length R → length C ≡ length R → length Y ≡ length R → ((k : ℕ) → k < length R → slice_index C k ≤ slice_index R k)
+    → ((k : ℕ) → k < length R → slice_index R k + slice_index X k ≤ slice_index C k + slice_index Y k) → overlap_extents R X C Y ≡ X
+extents_within [] [] C Y extents same other below ends = refl
+extents_within [] (x ∷ X) C Y extents same other below ends = absurd (omega arith)
+extents_within (r ∷ R) [] C Y extents same other below ends = absurd (omega arith)
+extents_within (r ∷ R) (x ∷ X) [] Y extents same other below ends = absurd (omega arith)
+extents_within (r ∷ R) (x ∷ X) (c ∷ C) [] extents same other below ends = absurd (omega arith)
+extents_within (r ∷ R) (x ∷ X) (c ∷ C) (y ∷ Y) extents same other below ends =
+    let low : c ≤ r = below 0 (omega arith) in
+    let high : r + x ≤ c + y = ends 0 (omega arith) in
+    let first : min (r + x) (c + y) - max r c ≡ x = omega arith in
+    ap (λ n. n ∷ overlap_extents R X C Y) first
+    ∙ ap (λ l. x ∷ l) (extents_within R X C Y (omega arith) (omega arith) (omega arith) (λ k lt. below (suc k) (omega arith)) (λ k lt. ends (suc k) (omega arith)))
+
+-- a region that lies in a chunk is all that they share
+pub overlap_within : (region chunk : Box) → IsLong region → IsLong chunk → LiesInBox region chunk → overlap_of region chunk ≡ region
+overlap_within region chunk long chunk_long lies =
+    let below : (k : ℕ) → k < length region.start → slice_index chunk.start k ≤ slice_index region.start k = λ k lt. lies.starts k (omega (arith, lies.same_length)) in
+    let start = start_within region.start chunk.start lies.same_length below in
+    let extents = extents_within region.start region.shape chunk.start chunk.shape (sym long) (sym lies.same_length) (sym chunk_long ∙ sym lies.same_length) below
+    (λ k lt. lies.ends k (omega (arith, lies.same_length))) in
+    ap (λ s. record { start = s; shape = overlap_extents region.start region.shape chunk.start chunk.shape }) start ∙ ap (λ x. record { start = region.start; shape = x }) extents
+
 -- the positions of what two boxes share are those of both
 pub in_overlap : (region chunk : Box) (position : List ℕ) → IsLong region → IsLong chunk → length region.start ≡ length chunk.start → in_box (overlap_of region chunk) position ≡ in_box region position && in_box chunk position
 in_overlap region chunk position long chunk_long same = in_box-overlap region.start region.shape chunk.start chunk.shape position long chunk_long same

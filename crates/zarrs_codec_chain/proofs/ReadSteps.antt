@@ -15,16 +15,19 @@ use Rattle.zarrs_codec_shard.proofs.Cuts.{position_divided}
 use Rattle.zarrs_codec_shard.proofs.Missing.{all_present-at, given_if-parts, length-all_present}
 use Rattle.zarrs_codec_shard.proofs.ShardLaws.{length-shard_parts}
 use Rattle.zarrs_data_type_bytes.proofs.Pieces.{length-pieces}
+use Rattle.zarrs_codec_shard.proofs.SubchunkBoxes.{long_corner}
 use Rattle.zarrs_subset.specs.Boxes.{InShape, place, unravel}
 use Rattle.zarrs_subset.specs.Pieces.{piece_at, pieces}
 use Rattle.zarrs_subset.specs.Regions.{Box, Holds, IsLong, LiesInBox, LiesInShape, box_from, in_box, overlap_of, seen_from}
 use Rattle.zarrs_subset.proofs.Kernel.{place_below}
 use Rattle.zarrs_subset.proofs.Overlaps.{AllSome, in_box-empty}
+use Rattle.zarrs_subset.proofs.Positions.{unravel_in}
 use Rattle.zarrs_data_type.specs.Cell.{Cell}
 use Rattle.zarrs_data_type.specs.Kind.{Kind}
 use Rattle.zarrs_codec_chain.specs.Places.{boxes_meet, is_index_place, is_range_place}
 use Rattle.zarrs_codec_chain.specs.ShardParts.{HasSubchunkParts, ReadsSubchunk}
-use Rattle.zarrs_codec_chain.specs.ShardReads.{HasNoSubchunk, HasNone, IsAt, IsOpen, IsShare, ShardRead, box_at, count_of, entry_of, part_places, parts_of}
+use Rattle.zarrs_codec_chain.specs.ShardReads.{HasNoSubchunk, HasNone, IsAt, IsOpen, IsShare, IsSole, ShardRead, box_at, count_of, entry_of, part_places, parts_of}
+use Rattle.zarrs_codec_chain.proofs.MovedBoxes.{in_overlap, overlap_within}
 use Rattle.zarrs_codec_chain.proofs.PartBoxes.{part_fits, within_shape}
 use Rattle.zarrs_codec_chain.proofs.SubchunkPieces.{any_at, meets, named_place, piece_of, shared_inside, subset_is}
 use Rattle.zarrs_codec_chain.proofs.SubchunkSteps.{own_holds, skip_more}
@@ -130,6 +133,23 @@ module _ (r : ShardRead) (is : IsOpen r) where
         above = subst (λ (b : Box). (k : ℕ) → k < length b.start → slice_index (corner r.sub i) k ≤ slice_index b.start k) (sym shared_is) piece.above;
         own_is = own_is;
         own_lies = subst (λ b. LiesInShape b r.sub) (sym (own_is ∙ ap (λ b. seen_from b (corner r.sub i)) shared_is)) piece.own_lies;
+      }
+
+  -- all of a part that lies in one subchunk
+  pub sole_of : (n : ℕ) (own : Box) (at_corner : List ℕ) → n < count_of r → at_corner ≡ (box_at r n).start → ((k : ℕ) → k < length r.part.start → 0 < slice_index r.part.shape k)
+      → LiesInBox r.part (box_from at_corner r.sub) → own ≡ seen_from r.part at_corner → IsSole r n own
+  sole_of n own at_corner lt corner_of full lies own_of =
+      let box_is : box_from at_corner r.sub ≡ box_at r n = ap (λ (x : List ℕ). box_from x r.sub) corner_of in
+      let inside : LiesInBox r.part (box_at r n) = subst (LiesInBox r.part) box_is lies in
+      let box_long : IsLong (box_at r n) = long_corner r.shape r.sub (unravel (quotients r.shape r.sub) n) is.cut (unravel_in (quotients r.shape r.sub) n lt) in
+      let shared_is : r.part ≡ overlap_of r.part (box_at r n) = sym (overlap_within r.part (box_at r n) is.long box_long inside) in
+      record {
+        below = lt;
+        share = λ i at.
+            share_of i n r.part own at_corner at shared_is
+            (λ p. ap (λ (b : Box). in_box b p) shared_is ∙ in_overlap r.part (box_at r n) p is.long box_long inside.same_length)
+            (λ k below none. absurd (omega (arith, full k (omega (arith, is.long)))))
+            corner_of own_of;
       }
 
   -- ---- nothing is read

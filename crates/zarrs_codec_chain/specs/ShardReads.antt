@@ -73,3 +73,8 @@ pub record IsShare (r : ShardRead) (i : List ℕ) (n : ℕ) (shared own : Box) :
   pub above : (k : ℕ) → k < length shared.start → slice_index (corner r.sub i) k ≤ slice_index shared.start k
   pub own_is : own ≡ seen_from shared (corner r.sub i)
   pub own_lies : LiesInShape own r.sub
+
+-- the subchunk of this number has each position of the part, and `own` is the part, seen from the corner of the subchunk
+pub record IsSole (r : ShardRead) (n : ℕ) (own : Box) : Type 0 where
+  pub below : n < count_of r
+  pub share : (i : List ℕ) → IsAt r i n → IsShare r i n r.part own

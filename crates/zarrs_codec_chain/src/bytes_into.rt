@@ -28,7 +28,7 @@ use zarrs_subset::{ArraySubset, Corner, copy_box};
 const MOST_DIMENSIONS: usize = 64;
 
 /// Decodes a part of a chunk that is stored as these bytes, and has the shape of the target's box, into the box. Every
-/// byte outside the box stays; after a refusal the inside is open.
+/// byte outside the box stays; after a refusal the bytes inside may be anything.
 ///
 /// Numbers and raw cells that the source lends go straight to their places, in at most 64 dimensions. Otherwise the
 /// cells are read as `partial_decode_bytes` reads them, and then written.
@@ -219,7 +219,7 @@ impl Turning<8> for Turned {
     }
 }
 
-/// So many cells are turned at a time: the compiler makes vector code of it.
+/// How many cells are turned at a time, so that the compiler makes vector code.
 const GROUP: usize = 16;
 
 /// The cells of a group, the bytes of each in reverse.

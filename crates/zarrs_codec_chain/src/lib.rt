@@ -28,7 +28,7 @@ pub use options::{
     CodecMetadataOptions, CodecOptions, CodecSpecificOptions, ShardingCodecOptions,
     SubchunkWriteOrder,
 };
-pub use shard_part::{ShardPart, Share, moved_to};
+pub use shard_part::{ShardPart, Share, SoleSubchunk, moved_to};
 pub use stored::Stored;
 pub use traits::ChainTraits;
 pub use whole::part_of_whole;

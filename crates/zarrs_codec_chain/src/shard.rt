@@ -1,7 +1,9 @@
 //! The boxes of subchunks, and of a part of their shard.
 ghost use Rattle.std.specs.Prelude.{◌≡◌, ◌+◌, ◌*◌, ◌/◌, ◌≤◌, ◌<◌, ◌^◌, ◌&&◌, ℕ, List, true, IfOk, length, slice_index};
+ghost use Rattle.std.specs.Bool.{OnTrue};
 ghost use Rattle.zarrs_codec_shard.specs.Subchunks.{is_cut_by};
-ghost use Rattle.zarrs_subset.specs.Regions.{LiesInShape, box_of, in_box, overlap_of, seen_from};
+ghost use Rattle.zarrs_subset.specs.Boxes.{EndsFit};
+ghost use Rattle.zarrs_subset.specs.Regions.{LiesInBox, LiesInShape, box_from, box_of, in_box, overlap_of, seen_from};
 ghost use Rattle.zarrs_codec_chain.specs.ShardParts.{HasOnlyMet, MeetsPart};
 
 use std::alloc::{AllocError, Global};
@@ -34,6 +36,25 @@ pub(crate) fn seen_from_corner(
     ensures { IfOk result (λ own. box_of own ≡ seen_from (box_of shared.now) corner.now) }
 {
     shared.seen_from(alloc, corner)
+}
+
+/// Whether the box has a position, and lies in the box of this shape at a corner.
+pub(crate) fn lies_at(part: &ArraySubset, corner: &[u64], shape: &[u64]) -> bool
+    requires long { length corner.now ≡ length shape.now }
+    requires dimensions { length corner.now ≡ length (box_of part.now).start }
+    requires ends_fit { EndsFit corner.now shape.now }
+    ensures some { OnTrue result ((k : ℕ) → k < length (box_of part.now).start
+        → 0 < slice_index (box_of part.now).shape k) }
+    ensures lies { OnTrue result (LiesInBox (box_of part.now) (box_from corner.now shape.now)) }
+{
+    for axis in 0..shape.len() {
+        let (start, extent) = (part.start()[axis], part.shape()[axis]);
+        let end = corner[axis] + shape[axis];
+        if extent == 0 || start < corner[axis] || start + extent > end {
+            return false;
+        }
+    }
+    true
 }
 
 /// The indices of the subchunks that a part meets, as a box.

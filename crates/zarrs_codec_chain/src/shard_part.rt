@@ -3,17 +3,17 @@ ghost use Rattle.std.specs.Prelude.{◌≡◌, ◌+◌, ◌-◌, ◌*◌, ◌≤
 ghost use Rattle.std.specs.Bool.{OnFalse, OnTrue};
 ghost use Rattle.zarrs_codec_leaf.specs.Sources.{bytes_in};
 ghost use Rattle.zarrs_codec_shard.specs.Shards.{data_end, data_start, index_in, shard_parts};
-ghost use Rattle.zarrs_codec_shard.specs.SubchunkData.{chunk_shape, subchunk_shape};
+ghost use Rattle.zarrs_codec_shard.specs.LentData.{lent_chunk_shape, lent_shape};
 ghost use Rattle.zarrs_codec_shard.specs.Subchunks.{subchunk_count};
 ghost use Rattle.zarrs_subset.specs.Regions.{LiesInBox, LiesInShape, box_of, seen_from, shifted_box};
 ghost use Rattle.zarrs_codec_chain.specs.ShardReads.{part_places, shard_read};
 ghost use Rattle.zarrs_codec_chain.specs.Stored.{MayReadOf, bytes_of, refuses_of};
 
-use crate::shard::{common_part, met_subchunks, seen_from_corner};
+use crate::shard::{common_part, lies_at, met_subchunks, seen_from_corner};
 use crate::stored::Stored;
 use std::alloc::{AllocError, Global};
 use zarrs_codec_leaf::{ByteSource, SourceBytes};
-use zarrs_codec_shard::{SubchunkRange, Subchunks, are_entries, range_at};
+use zarrs_codec_shard::{LentSubchunks, SubchunkRange, are_entries, range_at};
 use zarrs_storage::StorageError;
 use zarrs_subset::{ArraySubset, ravel_indices};
 
@@ -22,26 +22,26 @@ use zarrs_subset::{ArraySubset, ravel_indices};
 pub struct ShardPart<'s, 'p, B: ByteSource> {
     stored: Stored<'s, B>,
     at_start: bool,
-    subchunks: Subchunks,
+    subchunks: LentSubchunks<'p>,
     /// The part.
     pub part: &'p ArraySubset,
     index: SourceBytes<'s>,
     // Where the data part begins and ends.
     start: usize,
     end: usize,
-    ghost lies: { LiesInShape (box_of part.now) (chunk_shape subchunks) },
+    ghost lies: { LiesInShape (box_of part.now) (lent_chunk_shape subchunks) },
     ghost index_is: { bytes_in index ≡ index_in at_start
-        (subchunk_count (chunk_shape subchunks) (subchunk_shape subchunks)) (bytes_of stored) },
+        (subchunk_count (lent_chunk_shape subchunks) (lent_shape subchunks)) (bytes_of stored) },
     ghost start_is: { start ≡ data_start at_start
-        (subchunk_count (chunk_shape subchunks) (subchunk_shape subchunks)) },
+        (subchunk_count (lent_chunk_shape subchunks) (lent_shape subchunks)) },
     ghost end_is: { end ≡ data_end at_start
-        (subchunk_count (chunk_shape subchunks) (subchunk_shape subchunks))
+        (subchunk_count (lent_chunk_shape subchunks) (lent_shape subchunks))
         (length (bytes_of stored)) },
     ghost tested: { is_some (shard_parts at_start
-        (subchunk_count (chunk_shape subchunks) (subchunk_shape subchunks)) (bytes_of stored))
+        (subchunk_count (lent_chunk_shape subchunks) (lent_shape subchunks)) (bytes_of stored))
         ≡ true },
-    ghost may_read: { MayReadOf stored (part_places (shard_read at_start (chunk_shape subchunks)
-        (subchunk_shape subchunks) (box_of part.now) (bytes_of stored) (refuses_of stored))) },
+    ghost may_read: { MayReadOf stored (part_places (shard_read at_start (lent_chunk_shape subchunks)
+        (lent_shape subchunks) (box_of part.now) (bytes_of stored) (refuses_of stored))) },
 }
 
 /// The positions that a part shares with a subchunk.
@@ -53,6 +53,15 @@ pub struct Share {
     pub own: ArraySubset,
 }
 
+/// The one subchunk that has each position of a part.
+#[derive(Debug, Drop)]
+pub struct SoleSubchunk {
+    /// Its number.
+    pub number: u64,
+    /// The part, seen from the corner of the subchunk.
+    pub own: ArraySubset,
+}
+
 impl<'s, 'p, B: ByteSource> ShardPart<'s, 'p, B> {
     ghost use Rattle.std.specs.Prelude.{ℕ, List, None, IfErr, IfNone, IfSome, option_map, slice_index_or};
     ghost use Rattle.zarrs_codec_leaf.specs.Sources.{RefusesSource};
@@ -61,7 +70,7 @@ impl<'s, 'p, B: ByteSource> ShardPart<'s, 'p, B> {
     ghost use Rattle.zarrs_codec_chain.specs.OpenShards.{read_of};
     ghost use Rattle.zarrs_codec_chain.specs.Places.{boxes_meet};
     ghost use Rattle.zarrs_codec_chain.specs.ShardParts.{HasOnlyMet, IsNoShard, MeetsPart};
-    ghost use Rattle.zarrs_codec_chain.specs.ShardReads.{HasNoSubchunk, HasNone, IsAt, IsShare, box_at, count_of, entry_of, parts_of};
+    ghost use Rattle.zarrs_codec_chain.specs.ShardReads.{HasNoSubchunk, HasNone, IsAt, IsShare, IsSole, box_at, count_of, entry_of, parts_of};
     ghost use Rattle.zarrs_codec_chain.specs.Stored.{MayReadAll};
 
     /// A part of a shard of this shape that is cut into subchunks of the shape `sub`, or `None` if the bytes are no such
@@ -73,8 +82,8 @@ impl<'s, 'p, B: ByteSource> ShardPart<'s, 'p, B> {
         alloc: Global,
         stored: &Stored<'s, B>,
         part: &'p ArraySubset,
-        shape: &[u64],
-        sub: &[u64],
+        shape: &'p [u64],
+        sub: &'p [u64],
         at_start: bool,
     ) -> Result<Option<ShardPart<'s, 'p, B>>, StorageError>
         requires part { LiesInShape (box_of part.now) shape.now }
@@ -87,7 +96,7 @@ impl<'s, 'p, B: ByteSource> ShardPart<'s, 'p, B> {
             (refuses_of stored.now))) }
         ensures refused { IfErr result (RefusesSource (refuses_of stored.now)) }
     {
-        let Some(subchunks) = Subchunks::new(alloc, shape, sub)? else {
+        let Some(subchunks) = LentSubchunks::new(alloc, shape, sub)? else {
             return Ok(None);
         };
         let Some(count) = subchunks.count() else {
@@ -205,6 +214,26 @@ impl<'s, 'p, B: ByteSource> ShardPart<'s, 'p, B> {
         }
         let own = seen_from_corner(alloc, &shared, subset.start())?;
         Ok(Some(Share { shared, own }))
+    }
+
+    /// The subchunk that has each position of the part, if there is one. A part without positions has none.
+    ///
+    /// # Errors
+    /// `AllocError`: out of memory.
+    pub fn sole(&self, alloc: Global) -> Result<Option<SoleSubchunk>, AllocError>
+        ensures { IfOk result (λ found. IfSome found (λ sole. IsSole (read_of self.now) sole.number
+            (box_of sole.own))) }
+    {
+        let first = self.subchunks.indices_at(alloc, self.part.start())?;
+        let Some(number) = self.number(&first) else {
+            return Ok(None);
+        };
+        let corner = self.subchunks.corner_of(first);
+        if !lies_at(self.part, &corner, self.subchunks.shape()) {
+            return Ok(None);
+        }
+        let own = seen_from_corner(alloc, self.part, &corner)?;
+        Ok(Some(SoleSubchunk { number, own }))
     }
 
     /// The box of the subchunk of this number, where the shard fills this region.

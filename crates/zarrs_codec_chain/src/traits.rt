@@ -83,7 +83,7 @@ pub trait ChainTraits {
     ///
     /// # Errors
     /// `DoesNotFit` if the bytes do not decode; `SizeOverflow` if they leave out cells, and a chunk of fill is too large.
-    /// Which comes if both hold is open. `OutOfMemory` may come at any time.
+    /// If both hold, either may come. `OutOfMemory` may come at any time.
     fn decode<'a>(
         &self,
         alloc: Global,
@@ -103,8 +103,8 @@ pub trait ChainTraits {
     /// # Errors
     /// `Codec(DoesNotFit)` if the bytes do not decode, though a part of them may, unless it is the whole chunk;
     /// `Codec(SizeOverflow)` if what the chain decodes whole for this part is too large, the chunk or a subchunk that the
-    /// part meets: its cells, or its fill if its bytes leave out cells; `Source` if the source refuses. Which comes if
-    /// several hold is open. `Codec(OutOfMemory)` may come at any time.
+    /// part meets: its cells, or its fill if its bytes leave out cells; `Source` if the source refuses. If several hold,
+    /// any of them may come. `Codec(OutOfMemory)` may come at any time.
     fn partial_decode<B: ByteSource>(
         &self,
         alloc: Global,
@@ -127,9 +127,9 @@ pub trait ChainTraits {
         ensures refused { IfErr result (RefusesToDecodePart (meaning self.now) chunk.now
             (box_of part.now) (window_bytes window (B.bytes source.now)) (B.refuses source.now)) };
 
-    /// Decodes a part of a chunk, which has the shape of the target's box, into the box. The chunk's bytes are those of a
-    /// window of a source. No other bytes are read than those that the part needs. Every byte outside the box stays; after
-    /// a refusal the inside is open.
+    /// Decodes a part of a chunk, which has the shape of the target's box, into the box. The chunk's bytes are those of
+    /// a window of a source. No other bytes are read than those that the part needs. Every byte outside the box stays;
+    /// after a refusal the bytes inside may be anything.
     ///
     /// # Errors
     /// Those of `partial_decode`.
@@ -159,7 +159,7 @@ pub trait ChainTraits {
             (box_of part.now) (window_bytes window (B.bytes source.now)) (B.refuses source.now)) };
 
     /// Decodes a chunk, which has the shape of the target's box, into the box. Every byte outside the box stays; after a
-    /// refusal the inside is open.
+    /// refusal the bytes inside may be anything.
     ///
     /// # Errors
     /// `DoesNotFit` if the bytes do not decode. `OutOfMemory` may come at any time.
@@ -218,8 +218,8 @@ pub trait ChainTraits {
     /// # Errors
     /// In this order: `DoesNotFit` if the chain does not take the type and the shape, or if the stored bytes do not decode
     /// where the part reads them; `SizeOverflow` if a size is too large: of what is written, or of a subchunk that the part
-    /// meets, be it of its fill where the stored bytes leave out cells. Which comes of a subchunk that is too large and does
-    /// not decode is open. `OutOfMemory` may come at any time.
+    /// meets, be it of its fill where the stored bytes leave out cells. For a subchunk that is too large and does not
+    /// decode, either may come. `OutOfMemory` may come at any time.
     fn partial_encode(
         &self,
         alloc: Global,

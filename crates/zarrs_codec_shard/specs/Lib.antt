@@ -1,6 +1,7 @@
 pub mod Blank
 pub mod Blocks
 pub mod CellParts
+pub mod LentData
 pub mod PartialShards
 pub mod Refusals
 pub mod Sharded

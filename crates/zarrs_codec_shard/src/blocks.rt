@@ -184,7 +184,7 @@ fn rows_in_block(shape: &[u64], size: usize) -> u64
     (BLOCK_LEN / row_len.max(1)).max(1)
 }
 
-/// So many rows of a box, from one on.
+/// `count` rows of a box, from row `first` on.
 fn rows_of(
     alloc: Global,
     subset: &ArraySubset,

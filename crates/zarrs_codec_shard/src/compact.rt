@@ -12,7 +12,7 @@ use std::alloc::{AllocError, Global};
 
 /// The shard of `count` subchunks with the bytes of its present subchunks as they are, in row-major order without gaps.
 ///
-/// `None` if the shard is as it would be made. Its index mostly tells that, and then nothing is copied.
+/// `None` if the shard is compact already. Usually the index alone shows that, and then nothing is copied.
 ///
 /// # Errors
 /// `CompactError::NoShard`: the bytes are no shard. `TooLong`: the shard would be too long. `OutOfMemory`.
@@ -42,7 +42,7 @@ pub fn compact_shard(
     Ok(Some(made))
 }
 
-/// Whether the index of a shard of `count` subchunks tells that the shard is as it would be made.
+/// Whether the index of a shard of `count` subchunks shows that the shard is compact.
 fn is_compact(encoded: &[u8], count: u64, at_start: bool) -> bool
     ensures { OnTrue result (compaction at_start count encoded.now ≡ Some None) }
 {
@@ -58,8 +58,7 @@ fn is_compact(encoded: &[u8], count: u64, at_start: bool) -> bool
     are_packed(&encoded[end..], count as usize, 0, end)
 }
 
-/// Whether what so many entries of an index name stands one after another, in their order and without gaps, from `start`
-/// up to `end`.
+/// Whether the ranges that the `count` entries name follow one another in order, without gaps, from `start` to `end`.
 fn are_packed(index: &[u8], count: usize, start: usize, end: usize) -> bool
     requires { length index.now ≡ count * 16 }
     ensures { OnTrue result (NamesPacked count start end index.now end) }
@@ -75,8 +74,8 @@ fn are_packed(index: &[u8], count: usize, start: usize, end: usize) -> bool
     last == end
 }
 
-/// Where what an entry names ends, if it stands behind `last`, and in the data part from `start` to `end`: an absent
-/// subchunk at `last`.
+/// Where the range of an entry ends, if it begins exactly at `last` and lies from `start` to `end`. An absent subchunk
+/// ends at `last`.
 fn packed_end(entry: &[u8], last: usize, start: usize, end: usize) -> Option<usize>
     requires { length entry.now ≡ 16 }
     ensures { IfSome result (λ next. (number : ℕ) (index : List ℕ) → entry.now

@@ -24,7 +24,7 @@ use std::alloc::{AllocError, Global};
 use zarrs_data_type::{ArrayBytes, DataType, FillValue};
 use zarrs_subset::{ArraySubset, element_count};
 
-/// The bytes of an entry of an index: a `u64` offset and a `u64` length.
+/// The length in bytes of an entry of an index: a `u64` offset and a `u64` length.
 pub(crate) const ENTRY_LEN: usize = 16;
 
 /// Where the bytes of a subchunk stand in its shard.
@@ -32,7 +32,7 @@ pub(crate) const ENTRY_LEN: usize = 16;
 pub struct SubchunkRange {
     /// The offset of the first byte.
     pub start: usize,
-    /// The offset behind the last byte.
+    /// The offset after the last byte.
     pub end: usize,
 }
 
@@ -67,7 +67,7 @@ pub fn read_index(
     read_entries(alloc, &encoded[end..], count as usize, 0, end)
 }
 
-/// The ranges that so many entries of an index name, or `None` if a present one does not lie from `start` to `end`.
+/// The ranges that `count` entries of an index name, or `None` if a present one does not lie from `start` to `end`.
 ///
 /// # Errors
 /// `AllocError`: out of memory.
@@ -98,7 +98,7 @@ fn read_entries(
     Ok(Some(ranges))
 }
 
-/// Whether each of so many entries of an index names a range from `start` to `end`, or is that of an absent subchunk.
+/// Whether each of `count` entries of an index names a range from `start` to `end`, or is that of an absent subchunk.
 pub fn are_entries(index: &[u8], count: usize, start: usize, end: usize) -> bool
     requires { length index.now ≡ count * 16 }
     ensures { (shard : List ℕ) → result

@@ -248,7 +248,8 @@ impl Subchunks {
         )
     }
 
-    /// How many subchunks from this number on surely have no position of the part: none only if it has one of the first.
+    /// A number of subchunks, from this one on, none of which shares a position with the part. It is 0 only if the part
+    /// meets the first of them.
     pub fn unmet(&self, part: &ArraySubset, number: u64) -> u64
         requires number { number < subchunk_count (chunk_shape self.now) (subchunk_shape self.now) }
         requires counted { subchunk_count (chunk_shape self.now) (subchunk_shape self.now) < 2 ^ 64 }

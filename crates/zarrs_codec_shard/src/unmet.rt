@@ -6,8 +6,8 @@ ghost use Rattle.zarrs_subset.specs.Regions.{box_of};
 
 use zarrs_subset::ArraySubset;
 
-/// How many subchunks from this number on surely have no position of a box, of subchunks of the shape `sub`, of which
-/// `grid` lie along each dimension: none only if it has one of the first.
+/// A number of subchunks, from this one on, none of which shares a position with the box. They have the shape `sub`, and
+/// `grid` of them lie along each dimension. It is 0 only if the box meets the first of them.
 pub(crate) fn unmet_run(part: &ArraySubset, sub: &[u64], grid: &[u64], number: u64) -> u64
     requires same_length { length sub.now ≡ length grid.now }
     requires dimensions { length (box_of part.now).start ≡ length grid.now }
@@ -39,8 +39,8 @@ pub(crate) fn unmet_run(part: &ArraySubset, sub: &[u64], grid: &[u64], number: u
     run
 }
 
-/// The first index from this one on, up to `count`, of a run of `len` that may share something with the extent from
-/// `start` on.
+/// The first index from `index` on whose `len` coordinates may meet the `extent` coordinates from `start` on, or `count`
+/// if there is none.
 fn next_shared(start: u64, extent: u64, len: u64, index: u64, count: u64) -> u64
     requires some { 0 < len }
     requires end { start + extent < 2 ^ 64 }

@@ -20,7 +20,7 @@ use Rattle.zarrs_codec.proofs.WholeReads.{absent_decodes, alone_decodes, each_de
 use Rattle.zarrs_codec.proofs.WholeShards.{alone_some}
 use Rattle.zarrs_codec_optional.specs.ShardingMetadata.{sizes_of}
 use Rattle.zarrs_codec_chain.proofs.Kept.{err_kept}
-use Rattle.zarrs_codec_chain.proofs.OpenShards.{opened}
+use Rattle.zarrs_codec_chain.proofs.OpenShards.{at_number, opened}
 use Rattle.zarrs_codec_chain.proofs.ReadSteps.{none_unfound, skip_absent, skip_none}
 use Rattle.zarrs_codec_chain.proofs.SubchunkSteps.{none_read}
 use Rattle.zarrs_codec_chain.proofs.SubchunkWalks.{all_walked, among_last, among_next, walked_cells, walked_last, walked_more, walked_next}
@@ -31,7 +31,8 @@ use Rattle.zarrs_codec_chain.specs.Refusals.{IsTooLargeToDecode}
 use Rattle.zarrs_codec_chain.specs.ShardParts.{HasSubchunkParts, IsNoShard, MeetsPart, is_among}
 use Rattle.zarrs_codec_chain.specs.ShardReads.{ShardRead, part_places, parts_of, shard_read}
 use Rattle.zarrs_codec_chain.specs.Stored.{MayReadOf, bytes_of, refuses_of}
-use Rattle.zarrs_subset.specs.Boxes.{position_count}
+use Rattle.zarrs_codec_shard.specs.Subchunks.{quotients}
+use Rattle.zarrs_subset.specs.Boxes.{position_count, unravel}
 use Rattle.zarrs_subset.specs.Regions.{Box, LiesInShape, box_of, positions}
 use Rattle.zarrs_subset.specs.Walks.{walk_box, walk_number}
 use Rattle.zarrs_data_type_kinds.proofs.Sizes.{cell_size-positive}
@@ -359,23 +360,90 @@ sharding::ShardingCodec::read_subchunks-unreachable-requires g t c =
     let one : 1 ≤ cell_size (kind_of c.args.cell_type.now) = cell_size-positive c.args.cell_type.now.data_type in
     omega (arith, mul-le-mul_left (position_count shape) one, c.requires.size, c.in_default.ensures.refused)
 
-pub sharding::ShardingCodec::read_part-returns-then-eq-clause-all : goal.sharding::ShardingCodec::read_part-returns-then-eq-clause-all
-sharding::ShardingCodec::read_part-returns-then-eq-clause-all g t c =
+pub sharding::ShardingCodec::decode_sole-subchunk-requires : goal.sharding::ShardingCodec::decode_sole-subchunk-requires
+sharding::ShardingCodec::decode_sole-subchunk-requires g t c = c.requires.sole.below
+
+pub sharding::ShardingCodec::decode_sole-partial_decode_inner-requires : goal.sharding::ShardingCodec::decode_sole-partial_decode_inner-requires
+sharding::ShardingCodec::decode_sole-partial_decode_inner-requires g t c κs within =
+    let k = kind_of c.args.cell_type.now in
+    let r = read_of c.args.read.now in
+    let is = opened c.args.read.now in
+    let m : ChainMeaning = chain_meaning (inner_chain_of c.args.self.now) in
+    let n = c.args.sole.now.number in
+    let i = unravel (quotients r.shape r.sub) n in
+    let share = c.requires.sole.share i (at_number r n c.requires.sole.below) in
+    let own = box_of c.args.sole.now.own in
+    let shape_is : c.subchunk_shape.result.now ≡ r.sub = c.subchunk_shape.ensures in
+    let small = small_share c.args.self.now c.args.cell_type.now r is i n r.part own share is.long c.requires.size in
+    let lies = subst (LiesInShape own) (sym shape_is) share.own_lies in
+    let stored = c.in-Some.stored in
+    let shape = c.subchunk_shape.result.now in
+    let may = read_places stored (m.places k shape own (bytes_of stored)) ((chain-lawful (inner_chain_of c.args.self.now)).places_inside k shape own (bytes_of stored)) (c.in-Some.ensures.may_read share.meets) in
+    (first_of (omega (arith, c.decreases), search rules), (search rules, (small, (lies, may))))
+
+pub sharding::ShardingCodec::decode_sole-returns-in_err-cells-clause-refused : goal.sharding::ShardingCodec::decode_sole-returns-in_err-cells-clause-refused
+sharding::ShardingCodec::decode_sole-returns-in_err-cells-clause-refused g t c =
     let k = kind_of c.args.cell_type.now in
     let f = filling c.args.cell_type.now in
     let r = read_of c.args.read.now in
     let is = opened c.args.read.now in
     let m : ChainMeaning = chain_meaning (inner_chain_of c.args.self.now) in
-    let dec = m.decoded k f r.sub in
-    let has = rw c.in-Some.is at c.in_ok-found.ensures.piece in
-    piece_alone k dec f r.shape r.sub r.part (parts_of r) c.start.result.now (box_of c.in-Some.piece.shared) (data_of c.in-Some.piece.cells) has (c.eq.ensures.0 c.if-eq.true)
+    let n = c.args.sole.now.number in
+    let i = unravel (quotients r.shape r.sub) n in
+    let share = c.requires.sole.share i (at_number r n c.requires.sole.below) in
+    let own = box_of c.args.sole.now.own in
+    let shape_is : c.subchunk_shape.result.now ≡ r.sub = c.subchunk_shape.ensures in
+    let stored = c.in-Some.stored in
+    let e = c.in_err-cells.field-0.0 in
+    err_kept c.from_residual.result e (RefusesReads c.args.self.now c.args.cell_type.now r) c.from_residual.ensures.1
+    (own_refused c.args.self.now c.args.cell_type.now r is n c.requires.sole.below stored own e c.in-Some.ensures.bytes c.in-Some.ensures.refuses
+    (large_share c.args.self.now c.args.cell_type.now r is i n r.part own share)
+    (subst (λ (x : List ℕ). RefusesPartDecoding (m.decoded k f x (bytes_of stored)) (IsTooLargeToDecode m k f x own (bytes_of stored)) (refuses_of stored) e) shape_is c.in_err-cells.ensures.refused))
 
-pub sharding::ShardingCodec::read_part-returns-then-eq-clause-whole : goal.sharding::ShardingCodec::read_part-returns-then-eq-clause-whole
-sharding::ShardingCodec::read_part-returns-then-eq-clause-whole g t c = λ all.
+pub sharding::ShardingCodec::decode_sole-returns-clause-all : goal.sharding::ShardingCodec::decode_sole-returns-clause-all
+sharding::ShardingCodec::decode_sole-returns-clause-all g t c =
+    let k = kind_of c.args.cell_type.now in
+    let f = filling c.args.cell_type.now in
     let r = read_of c.args.read.now in
     let is = opened c.args.read.now in
-    let has = rw c.in-Some.is at c.in_ok-found.ensures.piece in
-    alone_decodes c.args.self.now c.args.cell_type.now r is all c.start.result.now (box_of c.in-Some.piece.shared) (data_of c.in-Some.piece.cells) has (c.eq.ensures.0 c.if-eq.true) (c.in_ok-found.ensures.whole all)
+    let m : ChainMeaning = chain_meaning (inner_chain_of c.args.self.now) in
+    let n = c.args.sole.now.number in
+    let i = unravel (quotients r.shape r.sub) n in
+    let at = at_number r n c.requires.sole.below in
+    let share = c.requires.sole.share i at in
+    let own = box_of c.args.sole.now.own in
+    let shape_is : c.subchunk_shape.result.now ≡ r.sub = c.subchunk_shape.ensures in
+    let stored = c.in-Some.stored in
+    let made = data_of c.in_ok-cells.cells in
+    let has = piece_of_share c.args.self.now c.args.cell_type.now r is i n (bytes_of stored) r.part own made at share is.long c.in-Some.ensures.bytes
+    (subst (λ (x : List ℕ). DecodesPart k x own (m.decoded k f x (bytes_of stored)) made) shape_is c.in_ok-cells.ensures.cells) in
+    piece_alone k (m.decoded k f r.sub) f r.shape r.sub r.part (parts_of r) i r.part made has refl
+
+pub sharding::ShardingCodec::decode_sole-returns-clause-whole : goal.sharding::ShardingCodec::decode_sole-returns-clause-whole
+sharding::ShardingCodec::decode_sole-returns-clause-whole g t c = λ all.
+    let k = kind_of c.args.cell_type.now in
+    let f = filling c.args.cell_type.now in
+    let r = read_of c.args.read.now in
+    let is = opened c.args.read.now in
+    let m : ChainMeaning = chain_meaning (inner_chain_of c.args.self.now) in
+    let n = c.args.sole.now.number in
+    let i = unravel (quotients r.shape r.sub) n in
+    let at = at_number r n c.requires.sole.below in
+    let share = c.requires.sole.share i at in
+    let own = box_of c.args.sole.now.own in
+    let shape_is : c.subchunk_shape.result.now ≡ r.sub = c.subchunk_shape.ensures in
+    let stored = c.in-Some.stored in
+    let b = bytes_of stored in
+    let made = data_of c.in_ok-cells.cells in
+    let has = piece_of_share c.args.self.now c.args.cell_type.now r is i n b r.part own made at share is.long c.in-Some.ensures.bytes
+    (subst (λ (x : List ℕ). DecodesPart k x own (m.decoded k f x b) made) shape_is c.in_ok-cells.ensures.cells) in
+    let one = shared_decodes c.args.self.now c.args.cell_type.now r is all i n b r.part own at share c.in-Some.ensures.bytes
+    (λ same. subst (λ (x : List ℕ). IsSome (m.decoded k f x b)) shape_is (c.in_ok-cells.ensures.whole (same ∙ sym shape_is))) in
+    alone_decodes c.args.self.now c.args.cell_type.now r is all i r.part made has refl one
+
+pub sharding::ShardingCodec::read_part-decode_sole-requires : goal.sharding::ShardingCodec::read_part-decode_sole-requires
+sharding::ShardingCodec::read_part-decode_sole-requires g t c κs within =
+    (first_of (omega (arith, c.decreases), search rules), (search rules, (c.requires, rw c.in-Some.is at c.in_ok-sole.ensures)))
 
 pub sharding::ShardingCodec::read_all-read_part-requires : goal.sharding::ShardingCodec::read_all-read_part-requires
 sharding::ShardingCodec::read_all-read_part-requires g t c κs within =
@@ -412,7 +480,7 @@ sharding::ShardingCodec::partial_decode_shard-open-requires-clause-may_read g t 
     let stored = c.args.stored.now in
     let chunk = c.args.chunk.now in
     let at_is : c.is_at_start-at_start.result ≡ is_at_start (location_of x) = c.is_at_start-at_start.ensures ∙ ap is_at_start c.index_location.ensures in
-    let sub_is : c.deref.result.now ≡ sizes_of (subchunk_sizes_of x) = c.deref.ensures.value ∙ c.in_ok-sub.ensures in
+    let sub_is : c.deref.result.now ≡ sizes_of (subchunk_sizes_of x) = c.deref.ensures ∙ c.in_ok-sub.ensures in
     let r_of = λ (at : Bool) (sub : List ℕ). shard_read at (shape_of chunk) sub (box_of c.args.part.now) (bytes_of stored) (refuses_of stored) in
     subst (λ (l : List ℕ). MayReadOf stored (part_places (r_of c.is_at_start-at_start.result l))) (sym sub_is)
     (subst (λ (at : Bool). MayReadOf stored (part_places (r_of at (sizes_of (subchunk_sizes_of x))))) (sym at_is) c.requires.may_read)
@@ -423,7 +491,7 @@ sharding::ShardingCodec::partial_decode_shard-read_part-requires g t c κs withi
     let stored = c.args.stored.now in
     let chunk = c.args.chunk.now in
     let at_is : c.is_at_start-at_start.result ≡ is_at_start (location_of x) = c.is_at_start-at_start.ensures ∙ ap is_at_start c.index_location.ensures in
-    let sub_is : c.deref.result.now ≡ sizes_of (subchunk_sizes_of x) = c.deref.ensures.value ∙ c.in_ok-sub.ensures in
+    let sub_is : c.deref.result.now ≡ sizes_of (subchunk_sizes_of x) = c.deref.ensures ∙ c.in_ok-sub.ensures in
     let r_of = λ (at : Bool) (sub : List ℕ). shard_read at (shape_of chunk) sub (box_of c.args.part.now) (bytes_of stored) (refuses_of stored) in
     let read = c.in-Some.read in
     let read_is : read_of read ≡ r_of (is_at_start (location_of x)) (sizes_of (subchunk_sizes_of x)) =
@@ -437,7 +505,7 @@ sharding::ShardingCodec::partial_decode_shard-returns-clause-cells g t c =
     let stored = c.args.stored.now in
     let chunk = c.args.chunk.now in
     let at_is : c.is_at_start-at_start.result ≡ is_at_start (location_of x) = c.is_at_start-at_start.ensures ∙ ap is_at_start c.index_location.ensures in
-    let sub_is : c.deref.result.now ≡ sizes_of (subchunk_sizes_of x) = c.deref.ensures.value ∙ c.in_ok-sub.ensures in
+    let sub_is : c.deref.result.now ≡ sizes_of (subchunk_sizes_of x) = c.deref.ensures ∙ c.in_ok-sub.ensures in
     let r_of = λ (at : Bool) (sub : List ℕ). shard_read at (shape_of chunk) sub (box_of c.args.part.now) (bytes_of stored) (refuses_of stored) in
     let read = c.in-Some.read in
     let read_is : read_of read ≡ r_of (is_at_start (location_of x)) (sizes_of (subchunk_sizes_of x)) =
@@ -452,7 +520,7 @@ sharding::ShardingCodec::partial_decode_shard-returns-clause-refused g t c =
     let stored = c.args.stored.now in
     let chunk = c.args.chunk.now in
     let at_is : c.is_at_start-at_start.result ≡ is_at_start (location_of x) = c.is_at_start-at_start.ensures ∙ ap is_at_start c.index_location.ensures in
-    let sub_is : c.deref.result.now ≡ sizes_of (subchunk_sizes_of x) = c.deref.ensures.value ∙ c.in_ok-sub.ensures in
+    let sub_is : c.deref.result.now ≡ sizes_of (subchunk_sizes_of x) = c.deref.ensures ∙ c.in_ok-sub.ensures in
     let r_of = λ (at : Bool) (sub : List ℕ). shard_read at (shape_of chunk) sub (box_of c.args.part.now) (bytes_of stored) (refuses_of stored) in
     let read = c.in-Some.read in
     let read_is : read_of read ≡ r_of (is_at_start (location_of x)) (sizes_of (subchunk_sizes_of x)) =
@@ -467,7 +535,7 @@ sharding::ShardingCodec::partial_decode_shard-read_all-requires g t c κs within
     let stored = c.args.stored.now in
     let chunk = c.args.chunk.now in
     let at_is : c.is_at_start-at_start.result ≡ is_at_start (location_of x) = c.is_at_start-at_start.ensures ∙ ap is_at_start c.index_location.ensures in
-    let sub_is : c.deref.result.now ≡ sizes_of (subchunk_sizes_of x) = c.deref.ensures.value ∙ c.in_ok-sub.ensures in
+    let sub_is : c.deref.result.now ≡ sizes_of (subchunk_sizes_of x) = c.deref.ensures ∙ c.in_ok-sub.ensures in
     let r_of = λ (at : Bool) (sub : List ℕ). shard_read at (shape_of chunk) sub (box_of c.args.part.now) (bytes_of stored) (refuses_of stored) in
     let read = c.in-Some.read in
     let read_is : read_of read ≡ r_of (is_at_start (location_of x)) (sizes_of (subchunk_sizes_of x)) =
@@ -483,7 +551,7 @@ sharding::ShardingCodec::partial_decode_shard-returns-then-eq-clause-cells g t c
     let stored = c.args.stored.now in
     let chunk = c.args.chunk.now in
     let at_is : c.is_at_start-at_start.result ≡ is_at_start (location_of x) = c.is_at_start-at_start.ensures ∙ ap is_at_start c.index_location.ensures in
-    let sub_is : c.deref.result.now ≡ sizes_of (subchunk_sizes_of x) = c.deref.ensures.value ∙ c.in_ok-sub.ensures in
+    let sub_is : c.deref.result.now ≡ sizes_of (subchunk_sizes_of x) = c.deref.ensures ∙ c.in_ok-sub.ensures in
     let r_of = λ (at : Bool) (sub : List ℕ). shard_read at (shape_of chunk) sub (box_of c.args.part.now) (bytes_of stored) (refuses_of stored) in
     let read = c.in-Some.read in
     let read_is : read_of read ≡ r_of (is_at_start (location_of x)) (sizes_of (subchunk_sizes_of x)) =
@@ -498,7 +566,7 @@ sharding::ShardingCodec::partial_decode_shard-returns-then-eq-clause-whole g t c
     let stored = c.args.stored.now in
     let chunk = c.args.chunk.now in
     let at_is : c.is_at_start-at_start.result ≡ is_at_start (location_of x) = c.is_at_start-at_start.ensures ∙ ap is_at_start c.index_location.ensures in
-    let sub_is : c.deref.result.now ≡ sizes_of (subchunk_sizes_of x) = c.deref.ensures.value ∙ c.in_ok-sub.ensures in
+    let sub_is : c.deref.result.now ≡ sizes_of (subchunk_sizes_of x) = c.deref.ensures ∙ c.in_ok-sub.ensures in
     let r_of = λ (at : Bool) (sub : List ℕ). shard_read at (shape_of chunk) sub (box_of c.args.part.now) (bytes_of stored) (refuses_of stored) in
     let read = c.in-Some.read in
     let read_is : read_of read ≡ r_of (is_at_start (location_of x)) (sizes_of (subchunk_sizes_of x)) =
@@ -513,7 +581,7 @@ sharding::ShardingCodec::partial_decode_shard-returns-then-eq-clause-refused g t
     let stored = c.args.stored.now in
     let chunk = c.args.chunk.now in
     let at_is : c.is_at_start-at_start.result ≡ is_at_start (location_of x) = c.is_at_start-at_start.ensures ∙ ap is_at_start c.index_location.ensures in
-    let sub_is : c.deref.result.now ≡ sizes_of (subchunk_sizes_of x) = c.deref.ensures.value ∙ c.in_ok-sub.ensures in
+    let sub_is : c.deref.result.now ≡ sizes_of (subchunk_sizes_of x) = c.deref.ensures ∙ c.in_ok-sub.ensures in
     let r_of = λ (at : Bool) (sub : List ℕ). shard_read at (shape_of chunk) sub (box_of c.args.part.now) (bytes_of stored) (refuses_of stored) in
     let read = c.in-Some.read in
     let read_is : read_of read ≡ r_of (is_at_start (location_of x)) (sizes_of (subchunk_sizes_of x)) =
@@ -526,7 +594,7 @@ sharding::ShardingCodec::partial_decode_shard-returns-in_default-clause-refused 
     let stored = c.args.stored.now in
     let chunk = c.args.chunk.now in
     let at_is : c.is_at_start-at_start.result ≡ is_at_start (location_of x) = c.is_at_start-at_start.ensures ∙ ap is_at_start c.index_location.ensures in
-    let sub_is : c.deref.result.now ≡ sizes_of (subchunk_sizes_of x) = c.deref.ensures.value ∙ c.in_ok-sub.ensures in
+    let sub_is : c.deref.result.now ≡ sizes_of (subchunk_sizes_of x) = c.deref.ensures ∙ c.in_ok-sub.ensures in
     let none = rw c.in_default.is at c.in_ok-read.ensures.none in
     let at = is_at_start (location_of x) in
     let m : ChainMeaning = chain_meaning (inner_chain_of x) in
@@ -534,10 +602,6 @@ sharding::ShardingCodec::partial_decode_shard-returns-in_default-clause-refused 
     let f = chunk_fill chunk in
     let sub = sizes_of (subchunk_sizes_of x) in
     (subst (λ (l : List ℕ). IsNoShard at (shape_of chunk) l (bytes_of stored)) sub_is (subst (λ (a : Bool). IsNoShard a (shape_of chunk) c.deref.result.now (bytes_of stored)) at_is none)) (subchunk_meaning m false k f sub) k f
-
-pub sharding::ShardingCodec::read_part-decode_piece-requires : goal.sharding::ShardingCodec::read_part-decode_piece-requires
-sharding::ShardingCodec::read_part-decode_piece-requires g t c κs within =
-    (first_of (omega (arith, c.decreases), search rules), (search rules, c.requires))
 
 pub sharding::ShardingCodec::read_part-read_subchunks-requires : goal.sharding::ShardingCodec::read_part-read_subchunks-requires
 sharding::ShardingCodec::read_part-read_subchunks-requires g t c κs within =

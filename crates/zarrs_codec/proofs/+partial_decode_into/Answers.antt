@@ -552,7 +552,7 @@ sharding::ShardingCodec::partial_decode_shard_into-open-requires-clause-may_read
     let stored = c.args.stored.now in
     let chunk = c.args.chunk.now in
     let at_is : c.is_at_start-at_start.result ≡ is_at_start (location_of x) = c.is_at_start-at_start.ensures ∙ ap is_at_start c.index_location.ensures in
-    let sub_is : c.deref.result.now ≡ sizes_of (subchunk_sizes_of x) = c.deref.ensures.value ∙ c.in_ok-sub.ensures in
+    let sub_is : c.deref.result.now ≡ sizes_of (subchunk_sizes_of x) = c.deref.ensures ∙ c.in_ok-sub.ensures in
     let r_of = λ (at : Bool) (sub : List ℕ). shard_read at (shape_of chunk) sub (box_of c.args.part.now) (bytes_of stored) (refuses_of stored) in
     subst (λ (l : List ℕ). MayReadOf stored (part_places (r_of c.is_at_start-at_start.result l))) (sym sub_is)
     (subst (λ (at : Bool). MayReadOf stored (part_places (r_of at (sizes_of (subchunk_sizes_of x))))) (sym at_is) c.requires.may_read)
@@ -563,7 +563,7 @@ sharding::ShardingCodec::partial_decode_shard_into-read_all_into-requires g t c 
     let stored = c.args.stored.now in
     let chunk = c.args.chunk.now in
     let at_is : c.is_at_start-at_start.result ≡ is_at_start (location_of x) = c.is_at_start-at_start.ensures ∙ ap is_at_start c.index_location.ensures in
-    let sub_is : c.deref.result.now ≡ sizes_of (subchunk_sizes_of x) = c.deref.ensures.value ∙ c.in_ok-sub.ensures in
+    let sub_is : c.deref.result.now ≡ sizes_of (subchunk_sizes_of x) = c.deref.ensures ∙ c.in_ok-sub.ensures in
     let r_of = λ (at : Bool) (sub : List ℕ). shard_read at (shape_of chunk) sub (box_of c.args.part.now) (bytes_of stored) (refuses_of stored) in
     let read = c.in-Some.read in
     let read_is : read_of read ≡ r_of (is_at_start (location_of x)) (sizes_of (subchunk_sizes_of x)) =
@@ -581,7 +581,7 @@ sharding::ShardingCodec::partial_decode_shard_into-read_subchunks_into-requires 
     let stored = c.args.stored.now in
     let chunk = c.args.chunk.now in
     let at_is : c.is_at_start-at_start.result ≡ is_at_start (location_of x) = c.is_at_start-at_start.ensures ∙ ap is_at_start c.index_location.ensures in
-    let sub_is : c.deref.result.now ≡ sizes_of (subchunk_sizes_of x) = c.deref.ensures.value ∙ c.in_ok-sub.ensures in
+    let sub_is : c.deref.result.now ≡ sizes_of (subchunk_sizes_of x) = c.deref.ensures ∙ c.in_ok-sub.ensures in
     let r_of = λ (at : Bool) (sub : List ℕ). shard_read at (shape_of chunk) sub (box_of c.args.part.now) (bytes_of stored) (refuses_of stored) in
     let read = c.in-Some.read in
     let read_is : read_of read ≡ r_of (is_at_start (location_of x)) (sizes_of (subchunk_sizes_of x)) =
@@ -597,7 +597,7 @@ sharding::ShardingCodec::partial_decode_shard_into-returns-then-eq-clause-cells 
     let stored = c.args.stored.now in
     let chunk = c.args.chunk.now in
     let at_is : c.is_at_start-at_start.result ≡ is_at_start (location_of x) = c.is_at_start-at_start.ensures ∙ ap is_at_start c.index_location.ensures in
-    let sub_is : c.deref.result.now ≡ sizes_of (subchunk_sizes_of x) = c.deref.ensures.value ∙ c.in_ok-sub.ensures in
+    let sub_is : c.deref.result.now ≡ sizes_of (subchunk_sizes_of x) = c.deref.ensures ∙ c.in_ok-sub.ensures in
     let r_of = λ (at : Bool) (sub : List ℕ). shard_read at (shape_of chunk) sub (box_of c.args.part.now) (bytes_of stored) (refuses_of stored) in
     let read = c.in-Some.read in
     let read_is : read_of read ≡ r_of (is_at_start (location_of x)) (sizes_of (subchunk_sizes_of x)) =
@@ -623,7 +623,7 @@ sharding::ShardingCodec::partial_decode_shard_into-returns-then-eq-clause-whole 
     let stored = c.args.stored.now in
     let chunk = c.args.chunk.now in
     let at_is : c.is_at_start-at_start.result ≡ is_at_start (location_of x) = c.is_at_start-at_start.ensures ∙ ap is_at_start c.index_location.ensures in
-    let sub_is : c.deref.result.now ≡ sizes_of (subchunk_sizes_of x) = c.deref.ensures.value ∙ c.in_ok-sub.ensures in
+    let sub_is : c.deref.result.now ≡ sizes_of (subchunk_sizes_of x) = c.deref.ensures ∙ c.in_ok-sub.ensures in
     let r_of = λ (at : Bool) (sub : List ℕ). shard_read at (shape_of chunk) sub (box_of c.args.part.now) (bytes_of stored) (refuses_of stored) in
     let read = c.in-Some.read in
     let read_is : read_of read ≡ r_of (is_at_start (location_of x)) (sizes_of (subchunk_sizes_of x)) =
@@ -640,7 +640,7 @@ sharding::ShardingCodec::partial_decode_shard_into-returns-then-eq-clause-refuse
     let stored = c.args.stored.now in
     let chunk = c.args.chunk.now in
     let at_is : c.is_at_start-at_start.result ≡ is_at_start (location_of x) = c.is_at_start-at_start.ensures ∙ ap is_at_start c.index_location.ensures in
-    let sub_is : c.deref.result.now ≡ sizes_of (subchunk_sizes_of x) = c.deref.ensures.value ∙ c.in_ok-sub.ensures in
+    let sub_is : c.deref.result.now ≡ sizes_of (subchunk_sizes_of x) = c.deref.ensures ∙ c.in_ok-sub.ensures in
     let r_of = λ (at : Bool) (sub : List ℕ). shard_read at (shape_of chunk) sub (box_of c.args.part.now) (bytes_of stored) (refuses_of stored) in
     let read = c.in-Some.read in
     let read_is : read_of read ≡ r_of (is_at_start (location_of x)) (sizes_of (subchunk_sizes_of x)) =
@@ -655,7 +655,7 @@ sharding::ShardingCodec::partial_decode_shard_into-returns-clause-cells g t c =
     let stored = c.args.stored.now in
     let chunk = c.args.chunk.now in
     let at_is : c.is_at_start-at_start.result ≡ is_at_start (location_of x) = c.is_at_start-at_start.ensures ∙ ap is_at_start c.index_location.ensures in
-    let sub_is : c.deref.result.now ≡ sizes_of (subchunk_sizes_of x) = c.deref.ensures.value ∙ c.in_ok-sub.ensures in
+    let sub_is : c.deref.result.now ≡ sizes_of (subchunk_sizes_of x) = c.deref.ensures ∙ c.in_ok-sub.ensures in
     let r_of = λ (at : Bool) (sub : List ℕ). shard_read at (shape_of chunk) sub (box_of c.args.part.now) (bytes_of stored) (refuses_of stored) in
     let read = c.in-Some.read in
     let read_is : read_of read ≡ r_of (is_at_start (location_of x)) (sizes_of (subchunk_sizes_of x)) =
@@ -675,7 +675,7 @@ sharding::ShardingCodec::partial_decode_shard_into-returns-clause-refused g t c 
     let stored = c.args.stored.now in
     let chunk = c.args.chunk.now in
     let at_is : c.is_at_start-at_start.result ≡ is_at_start (location_of x) = c.is_at_start-at_start.ensures ∙ ap is_at_start c.index_location.ensures in
-    let sub_is : c.deref.result.now ≡ sizes_of (subchunk_sizes_of x) = c.deref.ensures.value ∙ c.in_ok-sub.ensures in
+    let sub_is : c.deref.result.now ≡ sizes_of (subchunk_sizes_of x) = c.deref.ensures ∙ c.in_ok-sub.ensures in
     let r_of = λ (at : Bool) (sub : List ℕ). shard_read at (shape_of chunk) sub (box_of c.args.part.now) (bytes_of stored) (refuses_of stored) in
     let read = c.in-Some.read in
     let read_is : read_of read ≡ r_of (is_at_start (location_of x)) (sizes_of (subchunk_sizes_of x)) =
@@ -692,7 +692,7 @@ sharding::ShardingCodec::partial_decode_shard_into-returns-in_default-clause-ref
     let stored = c.args.stored.now in
     let chunk = c.args.chunk.now in
     let at_is : c.is_at_start-at_start.result ≡ is_at_start (location_of x) = c.is_at_start-at_start.ensures ∙ ap is_at_start c.index_location.ensures in
-    let sub_is : c.deref.result.now ≡ sizes_of (subchunk_sizes_of x) = c.deref.ensures.value ∙ c.in_ok-sub.ensures in
+    let sub_is : c.deref.result.now ≡ sizes_of (subchunk_sizes_of x) = c.deref.ensures ∙ c.in_ok-sub.ensures in
     let none = rw c.in_default.is at c.in_ok-read.ensures.none in
     let at = is_at_start (location_of x) in
     let m : ChainMeaning = chain_meaning (inner_chain_of x) in

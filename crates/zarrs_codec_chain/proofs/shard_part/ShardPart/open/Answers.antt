@@ -2,9 +2,9 @@ use Rattle.std.proofs.Common.{◌≡◌, ◌∙◌, ◌+◌, ◌*◌, ◌<◌, �
 use Rattle.std.specs.Prelude.{is_some}
 use Rattle.zarrs_codec_leaf.specs.Sources.{bytes_in}
 use Rattle.zarrs_codec_shard.specs.Shards.{index_in, shard_parts}
-use Rattle.zarrs_codec_shard.specs.SubchunkData.{chunk_shape, subchunk_shape}
+use Rattle.zarrs_codec_shard.specs.LentData.{lent_chunk_shape, lent_shape}
 use Rattle.zarrs_codec_shard.specs.Subchunks.{subchunk_count}
-use Rattle.zarrs_codec_shard.specs.declared.subchunks.Subchunks.{Subchunks}
+use Rattle.zarrs_codec_shard.specs.declared.lent.LentSubchunks.{LentSubchunks}
 use Rattle.zarrs_subset.specs.Regions.{LiesInShape, box_of}
 use Rattle.zarrs_codec_chain.specs.Places.{is_index_place}
 use Rattle.zarrs_codec_chain.specs.ShardReads.{part_places, shard_read}
@@ -14,11 +14,11 @@ use Rattle.zarrs_codec_chain.proofs.ShardOpening.{index_needed, no_cut, no_entri
 use Rattle.zarrs_codec_chain.proofs.shard_part.ShardPart.open.Goals as goal
 
 -- how many subchunks there are
-abbrev own_count : Subchunks → ℕ
-own_count subchunks = subchunk_count (chunk_shape subchunks) (subchunk_shape subchunks)
+abbrev own_count : LentSubchunks → ℕ
+own_count subchunks = subchunk_count (lent_chunk_shape subchunks) (lent_shape subchunks)
 
-own_is : (subchunks : Subchunks) (shape sub : List ℕ) → chunk_shape subchunks ≡ shape → subchunk_shape subchunks ≡ sub → own_count subchunks ≡ subchunk_count shape sub
-own_is subchunks shape sub shape_is sub_is = ap (λ s. subchunk_count s (subchunk_shape subchunks)) shape_is ∙ ap (subchunk_count shape) sub_is
+own_is : (subchunks : LentSubchunks) (shape sub : List ℕ) → lent_chunk_shape subchunks ≡ shape → lent_shape subchunks ≡ sub → own_count subchunks ≡ subchunk_count shape sub
+own_is subchunks shape sub shape_is sub_is = ap (λ s. subchunk_count s (lent_shape subchunks)) shape_is ∙ ap (subchunk_count shape) sub_is
 
 pub returns-in_default-clause-none : goal.returns-in_default-clause-none
 returns-in_default-clause-none g c =
@@ -77,7 +77,7 @@ returns-then-not-are_entries-clause-none g c =
 pub returns-clause-opened : goal.returns-clause-opened
 returns-clause-opened g c =
     let read = λ (s sub : List ℕ). shard_read c.args.at_start s sub (box_of c.args.part.now) (bytes_of c.args.stored.now) (refuses_of c.args.stored.now) in
-    ap (λ s. read s (subchunk_shape c.in-Some.subchunks)) (rw c.in-Some.is at c.in_ok-subchunks.ensures.chunk)
+    ap (λ s. read s (lent_shape c.in-Some.subchunks)) (rw c.in-Some.is at c.in_ok-subchunks.ensures.chunk)
     ∙ ap (read c.args.shape.now) (rw c.in-Some.is at c.in_ok-subchunks.ensures.subchunk)
 
 pub invariant_of-result-clause-lies : goal.invariant_of-result-clause-lies
@@ -111,5 +111,5 @@ pub invariant_of-result-clause-may_read : goal.invariant_of-result-clause-may_re
 invariant_of-result-clause-may_read g c =
     let stored = c.args.stored.now in
     let read = λ (s sub : List ℕ). MayReadOf stored (part_places (shard_read c.args.at_start s sub (box_of c.args.part.now) (bytes_of stored) (refuses_of stored))) in
-    subst (λ s. read s (subchunk_shape c.in-Some.subchunks)) (sym (rw c.in-Some.is at c.in_ok-subchunks.ensures.chunk))
+    subst (λ s. read s (lent_shape c.in-Some.subchunks)) (sym (rw c.in-Some.is at c.in_ok-subchunks.ensures.chunk))
     (subst (read c.args.shape.now) (sym (rw c.in-Some.is at c.in_ok-subchunks.ensures.subchunk)) c.requires.may_read)
