@@ -216,7 +216,7 @@ pub(crate) fn sizes_value(alloc: Global, sizes: &[NonZeroU64]) -> Result<Value, 
 {
     let mut values = Vec::with_capacity(alloc, sizes.len())?;
     for size in sizes {
-        values.push(Value::from(size.get()))?;
+        values.push_reserved(Value::from(size.get()));
     }
     Ok(Value::Array(values))
 }

@@ -19,7 +19,7 @@ pub(crate) fn has_cell(shape: &[u64]) -> bool
     true
 }
 
-/// Whether the list has each number below its length, so each once.
+/// Whether the list is a permutation of the numbers below its length.
 pub(crate) fn is_order(alloc: Global, order: &[u64]) -> Result<bool, AllocError>
     ensures { IfOk result (λ answer. answer ≡ is_order order.now) }
 {
@@ -76,7 +76,8 @@ pub(crate) fn inverse(alloc: Global, order: &[u64]) -> Result<Vec<u64>, AllocErr
     Ok(made)
 }
 
-/// How many bytes apart two positions of an array are that differ by one in a dimension.
+/// For each dimension, the distance between two cells whose indices differ by one there: in bytes for cells of `size`
+/// bytes, in cells if `size` is 1.
 pub(crate) fn strides(alloc: Global, shape: &[u64], size: usize) -> Result<Vec<u64>, AllocError>
     requires some { 0 < position_count shape.now }
     requires fits { position_count shape.now * size < 2 ^ 64 }

@@ -182,10 +182,7 @@ fn is_minus_one(value: &Value) -> bool
     ensures { (if result then Some rest else None)
         ≡ option_and_then rest_of (option_and_then as_i64 (as_number (view value.now))) }
 {
-    match value.as_i64() {
-        Some(number) => number == -1,
-        None => false,
-    }
+    value.as_i64() == Some(-1)
 }
 
 /// Returns the metadata of this name, whose configuration is this member.

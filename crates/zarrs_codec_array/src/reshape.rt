@@ -54,7 +54,7 @@ pub struct ReshapeCodec {
 impl ReshapeCodec {
     ghost use Rattle.zarrs_codec_array.specs.Reshape.{entries_of};
 
-    /// The codec of these entries; `None` if they name a dimension twice, or if two of them are what is left.
+    /// The codec of these entries; `None` if they name a dimension twice, or if more than one is `Rest`.
     ///
     /// # Errors
     /// `AllocError`: out of memory.
@@ -159,13 +159,10 @@ fn extent_left(count: u64, named: &[u64]) -> u64
 fn has_count(shape: &[u64], count: u64) -> bool
     ensures { IsTrue result ↔ (position_count shape.now ≡ count) }
 {
-    match element_count(shape) {
-        Some(total) => total == count,
-        None => false,
-    }
+    element_count(shape) == Some(count)
 }
 
-/// Whether the entries name no dimension twice, and at most one of them is what is left.
+/// Whether the entries name no dimension twice, and at most one of them is `Rest`.
 fn is_reshape(alloc: Global, entries: &[ReshapeExtent]) -> Result<bool, AllocError>
     ensures { IfOk result (λ answer. answer ≡ is_reshape (extents_view entries.now)) }
 {
@@ -198,7 +195,7 @@ fn are_distinct(alloc: Global, numbers: &[u64]) -> Result<bool, AllocError>
     Ok(true)
 }
 
-/// The number of entries that are what is left.
+/// The number of `Rest` entries.
 fn rests(entries: &[ReshapeExtent]) -> usize
     ensures { result ≡ count_by is_rest (extents_view entries.now) }
 {
@@ -211,8 +208,8 @@ fn rests(entries: &[ReshapeExtent]) -> usize
     count
 }
 
-/// The extents of the entries; `left` is what is left. `None` if one of them names a dimension that the shape
-/// does not have, or passes `u64`.
+/// The extents of the entries; `left` is the extent of a `Rest` entry. `None` if one of them names a dimension that the
+/// shape does not have, or passes `u64`.
 fn fitting_shape(
     alloc: Global,
     entries: &[ReshapeExtent],

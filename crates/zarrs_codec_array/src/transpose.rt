@@ -27,7 +27,7 @@ pub struct TransposeCodec {
 impl TransposeCodec {
     ghost use Rattle.zarrs_codec_array.specs.Transpose.{order_of};
 
-    /// The codec of this order, which is of the numbers below its length, each once; `None` for another list.
+    /// The codec of this order, a permutation of the dimension numbers; `None` for another list.
     ///
     /// # Errors
     /// `AllocError`: out of memory.

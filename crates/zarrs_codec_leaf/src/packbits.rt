@@ -14,7 +14,7 @@ use std::alloc::{AllocError, Global};
 use std::borrow::CowSlice;
 use zarrs_data_type::{ArrayBytes, DataType, Writing, written};
 
-/// Bools, eight to a byte, the first in the lowest bit. The bits behind the last bool are 0.
+/// Bools, eight to a byte, the first in the lowest bit. The bits after the last bool are 0.
 #[derive(Clone, Copy, Debug, Default, Drop, PartialEq, Eq)]
 pub struct PackBitsCodec;
 
@@ -121,8 +121,8 @@ impl Writing<u8, 8> for Bits {
 
     fn write(byte: &u8) -> [u8; 8] {
         let byte = *byte as u64;
-        let low = byte % 128 * SPREADING & LOWEST_BITS;
-        (low | byte / 128 << 56).to_le_bytes()
+        let low = (byte % 128) * SPREADING & LOWEST_BITS;
+        (low | ((byte / 128) << 56)).to_le_bytes()
     }
 }
 

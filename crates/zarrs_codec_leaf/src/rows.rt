@@ -219,7 +219,7 @@ fn read_rows<B: ByteSource>(
     Ok(())
 }
 
-/// Puts the bytes of the window behind the bytes.
+/// Appends the bytes of the window to `made`.
 fn read_run<B: ByteSource>(
     alloc: Global,
     source: &B,

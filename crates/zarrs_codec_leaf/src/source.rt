@@ -62,8 +62,8 @@ pub trait ByteSource {
     fn size(&self) -> u64
         ensures { result ≡ length (bytes self.now) };
 
-    /// Lends all its bytes, if it has them at hand and nothing keeps them from being read. `None` says nothing of them;
-    /// it is what a source returns that does not say otherwise.
+    /// Lends all its bytes, if it has them at hand and nothing keeps them from being read. `None` says nothing about
+    /// them, and is the default.
     fn lent(&self) -> Option<&[u8]>
         ensures lends { IfSome result (λ lent. LendsBytes (bytes self.now) (may_read self.now)
             lent.now) }

@@ -61,7 +61,7 @@ impl StringsCodec for VlenCodec {
     }
 }
 
-/// Puts the offsets behind the bytes, each in 8 bytes.
+/// Appends the offsets, each in 8 bytes.
 fn push_index(encoded: &mut Vec<u8>, offsets: &[usize]) -> Result<(), AllocError>
     ensures { OnOk result (encoded.new.items
         ≡ encoded.old.items ++ flat_map (to_le_bytes w64) offsets.now) }

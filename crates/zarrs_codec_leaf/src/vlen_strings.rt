@@ -10,11 +10,11 @@ use crate::strings::StringsCodec;
 use std::alloc::{AllocError, Global};
 use zarrs_data_type::{ArrayBytesVariableLength, DataType, VariableLengthBuilder};
 
-/// Texts: their number in 4 bytes, little endian, and each text behind its length, in 4 bytes too.
+/// Texts: their number in 4 bytes, little endian, and each text after its length, in 4 bytes too.
 #[derive(Clone, Copy, Debug, Default, Drop, PartialEq, Eq)]
 pub struct VlenUtf8Codec;
 
-/// Byte strings: their number in 4 bytes, little endian, and each byte string behind its
+/// Byte strings: their number in 4 bytes, little endian, and each byte string after its
 /// length, in 4 bytes too.
 #[derive(Clone, Copy, Debug, Default, Drop, PartialEq, Eq)]
 pub struct VlenBytesCodec;
@@ -108,7 +108,7 @@ fn counted_strings(
     Ok(Some(encoded))
 }
 
-/// Puts a byte string behind its length to the bytes, if the length fits 4 bytes.
+/// Appends the length of a byte string and then the byte string; returns `false` if the length does not fit 4 bytes.
 fn push_string(encoded: &mut Vec<u8>, string: &[u8]) -> Result<bool, AllocError>
     ensures fits { IfOk result (λ pushed. pushed ≡ is_short string.now) }
     ensures pushed { result ≡ Ok true
@@ -122,7 +122,7 @@ fn push_string(encoded: &mut Vec<u8>, string: &[u8]) -> Result<bool, AllocError>
     Ok(true)
 }
 
-/// The `count` byte strings of the bytes, behind their number.
+/// The `count` byte strings of the bytes, after their number.
 fn uncounted(
     alloc: Global,
     encoded: &[u8],

@@ -5,9 +5,10 @@ ghost use Rattle.serde_json.specs.View.{view};
 ghost use Rattle.zarrs_metadata_parts.specs.Extension.{extension_view, settings};
 ghost use Rattle.zarrs_codec_optional.specs.BytesMetadata.{are_little_bytes, endian_from, endian_said};
 ghost use Rattle.zarrs_codec_optional.specs.BytesMetadata.{extension_of_bytes, is_little_bytes, is_plain_bytes};
+ghost use Rattle.zarrs_codec_optional.specs.Sole.{list_of_one};
 
 use crate::metadata::named;
-use crate::sole::sole_codec;
+use crate::sole::{list_of_one, sole_codec};
 use crate::texts::is_text;
 use serde_json::Value;
 use std::alloc::{AllocError, Global};
@@ -70,6 +71,14 @@ pub fn bytes_metadata(alloc: Global, endian: Option<Endianness>) -> Result<Metad
         Some(Endianness::Little) => with_endian(alloc, metadata, "little"),
         Some(Endianness::Big) => with_endian(alloc, metadata, "big"),
     }
+}
+
+/// Returns the list of the codec of this endian alone.
+pub fn list_of_bytes(alloc: Global, endian: Option<Endianness>) -> Result<Value, AllocError>
+    ensures { IfOk result (λ v. view v ≡ list_of_one (extension_of_bytes endian)) }
+{
+    let codec = bytes_metadata(alloc, endian)?;
+    list_of_one(alloc, &codec)
 }
 
 fn with_endian(alloc: Global, metadata: MetadataV3, endian: &str) -> Result<MetadataV3, AllocError>

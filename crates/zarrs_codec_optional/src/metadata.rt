@@ -68,8 +68,8 @@ pub fn default_cells_codec(alloc: Global, data_type: &DataType) -> Result<CellsC
 }
 
 /// Returns the codec that metadata says, if it says one: a codec of plain cells (`PlainCodec::from_metadata`), or
-/// `zarrs.optional`, by its other name `optional`, with `mask_codecs`, a list of one of `packbits` and `bytes`, and
-/// `data_codecs`, a list of one of these codecs (Zarr V3 core specification, "Codecs").
+/// `zarrs.optional` (also `optional`) with `mask_codecs`, a list of one of `packbits` and `bytes`, and `data_codecs`, a
+/// list of one of these codecs (Zarr V3 core specification, "Codecs").
 ///
 /// # Errors
 /// `AllocError`: out of memory.
@@ -88,7 +88,7 @@ pub fn codec_of(alloc: Global, metadata: &MetadataV3) -> Result<Option<CellsCode
     optional_of(alloc, flags, found)
 }
 
-/// Returns the codec of codecs for the mask and for the data, if both are there.
+/// Returns the codec of codecs for the mask and for the data, if both are present.
 fn optional_of(
     alloc: Global,
     mask: Option<MaskCodec>,

@@ -22,7 +22,7 @@ use crate::metadata::{named, optional_metadata};
 use std::alloc::{AllocError, Global};
 use std::borrow::CowSlice;
 use zarrs_codec_leaf::{BytesCodec, CodecError, LeafCodec, Misfit, PackBitsCodec};
-use zarrs_data_type::{ArrayBytes, DataType, VariableLengthBuilder};
+use zarrs_data_type::{ArrayBytes, DataType, VariableLengthBuilder, owned_bytes};
 use zarrs_metadata_parts::MetadataV3;
 
 /// The codec of a mask: a bool for each cell, 1 if the cell is some.
@@ -34,9 +34,9 @@ pub enum MaskCodec {
     Bytes(BytesCodec),
 }
 
-/// Cells of an optional type: a mask behind its length, and the inner cells of those that are some, in their order,
-/// behind the length of their bytes. Each length has 8 bytes, little endian, and both stand in front. No inner cell has
-/// no byte.
+/// Cells of an optional type: the length of the mask and that of the inner cells' bytes, 8 bytes each, little endian;
+/// then the mask; then the inner cells of those that are some, in their order. Without such cells the last part is
+/// empty.
 #[cycle(codec)]
 #[derive(Debug, Drop)]
 pub struct OptionalCodec {
@@ -319,7 +319,7 @@ fn flags_of(alloc: Global, bools: ArrayBytes<'_>) -> Result<Vec<u8>, AllocError>
     let ArrayBytes::Fixed(flags) = bools else {
         unreachable!();
     };
-    Ok(flags.into_owned(alloc)?)
+    Ok(owned_bytes(alloc, flags)?)
 }
 
 /// How many flags are counted at a time: few enough that one byte holds their number.

@@ -29,11 +29,11 @@ pub enum PlainCodec {
     Bytes(BytesCodec),
     /// Bools, eight to a byte.
     PackBits(PackBitsCodec),
-    /// Texts, each behind its length.
+    /// Texts, each after its length.
     VlenUtf8(VlenUtf8Codec),
-    /// Byte strings, each behind its length.
+    /// Byte strings, each after its length.
     VlenBytes(VlenBytesCodec),
-    /// Texts or byte strings, behind the index of their offsets.
+    /// Texts or byte strings, after the index of their offsets.
     Vlen(VlenCodec),
 }
 
@@ -86,9 +86,9 @@ impl LeafCodec for PlainCodec {
 
 impl PlainCodec {
     /// Returns the codec that metadata says, if it says one: `bytes` with its `endian`, which may be absent; `packbits`
-    /// with no `padding_encoding` or the text `none`; `vlen-utf8` or `vlen-bytes` without configuration; or
-    /// `zarrs.vlen`, by its other name `vlen`, with an index of `uint64` at the start, by the codec `bytes`, little
-    /// endian, and data by the codec `bytes` without configuration (Zarr V3 core specification, "Codecs").
+    /// with no `padding_encoding` or the text `none`; `vlen-utf8` or `vlen-bytes` without configuration; or `zarrs.vlen`
+    /// (also `vlen`) with an index of `uint64` at the start, by the codec `bytes`, little endian, and data by the codec
+    /// `bytes` without configuration (Zarr V3 core specification, "Codecs").
     ///
     /// # Errors
     /// `AllocError`: out of memory.

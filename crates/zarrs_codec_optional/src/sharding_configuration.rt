@@ -8,9 +8,9 @@ ghost use Rattle.zarrs_codec_optional.specs.ShardingMetadata.{location_said, sha
 ghost use Rattle.zarrs_codec_optional.specs.ShardingMetadata.{sharding_extension, size_said, sizes_of};
 ghost use Rattle.zarrs_codec_optional.specs.ShardingViews.{sharding_view};
 
-use crate::bytes_metadata::{are_little_bytes, bytes_metadata};
+use crate::bytes_metadata::{are_little_bytes, list_of_bytes};
 use crate::metadata::named;
-use crate::sole::{extension_from, list_of_one};
+use crate::sole::extension_from;
 use serde_json::Value;
 use std::alloc::{AllocError, Global};
 use std::num::NonZeroU64;
@@ -140,11 +140,14 @@ pub fn sharding_metadata(
     })) }
 {
     let location = if at_start { "start" } else { "end" };
-    let index_codec = bytes_metadata(alloc, Some(Endianness::Little))?;
     named(alloc, "sharding_indexed")?
         .with_member(alloc, "chunk_shape", sizes_value(alloc, subchunk_shape)?)?
         .with_member(alloc, "codecs", extensions_value(alloc, codecs)?)?
-        .with_member(alloc, "index_codecs", list_of_one(alloc, &index_codec)?)?
+        .with_member(
+            alloc,
+            "index_codecs",
+            list_of_bytes(alloc, Some(Endianness::Little))?,
+        )?
         .with_member(
             alloc,
             "index_location",

@@ -7,9 +7,9 @@ ghost use Rattle.zarrs_codec_optional.specs.Sole.{sole_codec};
 ghost use Rattle.zarrs_codec_optional.specs.Texts.{passes};
 ghost use Rattle.zarrs_codec_optional.specs.VlenMetadata.{extension_of_vlen, vlen_said};
 
-use crate::bytes_metadata::{are_little_bytes, bytes_metadata, is_plain_bytes};
+use crate::bytes_metadata::{are_little_bytes, is_plain_bytes, list_of_bytes};
 use crate::metadata::named;
-use crate::sole::{list_of_one, sole_codec};
+use crate::sole::sole_codec;
 use crate::texts::{is_text, is_text_or_absent};
 use serde_json::Value;
 use std::alloc::{AllocError, Global};
@@ -55,11 +55,16 @@ pub fn vlen_metadata(alloc: Global) -> Result<MetadataV3, AllocError>
     ensures written { IfOk result (λ m. extension_view m ≡ extension_of_vlen) }
     ensures reads_back { IfOk result (λ m. vlen_said (settings (extension_view m)) ≡ true) }
 {
-    let index_type = Value::try_from_str(alloc, "uint64")?;
-    let index_codec = bytes_metadata(alloc, Some(Endianness::Little))?;
-    let data_codec = named(alloc, "bytes")?;
     named(alloc, "zarrs.vlen")?
-        .with_member(alloc, "index_data_type", index_type)?
-        .with_member(alloc, "index_codecs", list_of_one(alloc, &index_codec)?)?
-        .with_member(alloc, "data_codecs", list_of_one(alloc, &data_codec)?)
+        .with_member(
+            alloc,
+            "index_data_type",
+            Value::try_from_str(alloc, "uint64")?,
+        )?
+        .with_member(
+            alloc,
+            "index_codecs",
+            list_of_bytes(alloc, Some(Endianness::Little))?,
+        )?
+        .with_member(alloc, "data_codecs", list_of_bytes(alloc, None)?)
 }

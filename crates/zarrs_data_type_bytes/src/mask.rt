@@ -6,6 +6,7 @@ ghost use Rattle.zarrs_data_type_bytes.specs.Parts.{ExtractsAt, TakesAt};
 ghost use Rattle.zarrs_subset.specs.Boxes.{position_count};
 ghost use Rattle.zarrs_subset.specs.Regions.{box_of, LiesInBox};
 
+use crate::array_bytes::owned_bytes;
 use crate::boxes::{bytes_with_part, extract_bytes};
 use std::alloc::{AllocError, Global};
 use std::borrow::CowSlice;
@@ -72,7 +73,7 @@ impl<'a> Mask<'a> {
         ensures { IfOk result (λ owned. owned ≡ self.entry) }
     {
         Ok(Mask {
-            bytes: CowSlice::Owned(self.bytes.into_owned(alloc)?),
+            bytes: CowSlice::Owned(owned_bytes(alloc, self.bytes)?),
         })
     }
 
@@ -97,7 +98,7 @@ impl<'a> Mask<'a> {
         ensures flags { IfOk result (λ made. TakesAt (box_of held_box.now) (box_of part_box.now)
             (slice_index part.now) (slice_index self.entry) (slice_index made)) }
     {
-        let bytes = self.bytes.into_owned(alloc)?;
+        let bytes = owned_bytes(alloc, self.bytes)?;
         let made = bytes_with_part(bytes, 1, held_box, part, part_box);
         Ok(Mask::new(CowSlice::Owned(made)))
     }
@@ -120,7 +121,7 @@ impl<'a> Mask<'a> {
     }
 }
 
-/// Whether each byte is 0 or 1. It stops at no byte, so that many are tested at a time.
+/// Whether each byte is 0 or 1. It never stops early, so that the compiler tests many bytes at a time.
 pub fn are_flags(bytes: &[u8]) -> bool
     ensures { result ≡ list_all (λ byte. nat_lt byte 2) bytes.now }
 {

@@ -45,7 +45,7 @@ impl Numbers {
         Ok(Numbers { bytes })
     }
 
-    /// Puts one more number behind the others.
+    /// Appends a number.
     #[inline]
     pub(crate) fn push(&mut self, number: u64) -> Result<(), AllocError>
         ensures { OnOk result (self.new ≡ self.old ++ number ∷ []) }
@@ -64,7 +64,7 @@ impl Numbers {
         Numbers::new(alloc, numbers.as_slice())
     }
 
-    /// `count` zeros. Bytes that no `usize` counts are in no memory.
+    /// `count` zeros. More bytes than a `usize` counts fit in no memory.
     fn zeros(alloc: Global, count: usize) -> Result<Numbers, AllocError>
         ensures { IfOk result (λ made. made ≡ replicate count 0) }
     {

@@ -59,7 +59,7 @@ impl<'b> Extents<'b> {
         }
     }
 
-    /// The dimensions behind the first one.
+    /// The dimensions after the first one.
     fn rest(&self) -> Extents<'b>
         requires start { 0 < length self.now.start.now }
         requires shape { 0 < length self.now.shape.now }

@@ -3,7 +3,7 @@ ghost use Rattle.std.specs.Prelude.{◌≡◌, nat_lt};
 ghost use Rattle.std.specs.List.{list_all};
 ghost use Rattle.std.specs.Str.{is_utf8};
 
-/// Whether each byte is below 128. It stops at no byte, so that many are tested at a time.
+/// Whether each byte is below 128. It never stops early, so that the compiler tests many bytes at a time.
 pub(crate) fn are_ascii(bytes: &[u8]) -> bool
     ensures { result ≡ list_all (λ byte. nat_lt byte 128) bytes.now }
 {

@@ -191,7 +191,7 @@ impl VariableLengthBuilder {
         Ok(VariableLengthBuilder { bytes, offsets })
     }
 
-    /// Puts one more byte string behind the others.
+    /// Appends a byte string.
     ///
     /// # Errors
     /// `AllocError`: out of memory. The builder is then as it was.
@@ -205,7 +205,7 @@ impl VariableLengthBuilder {
         Ok(())
     }
 
-    /// Puts `count` byte strings of others, from number `from` on, behind these.
+    /// Appends `count` byte strings of `strings`, from number `from` on.
     ///
     /// # Errors
     /// `AllocError`: out of memory. The builder is then as it was.
@@ -248,7 +248,7 @@ impl VariableLengthBuilder {
     }
 }
 
-/// Puts the numbers, moved so that `from` becomes `to`, behind the others.
+/// Appends the numbers, moved so that `from` becomes `to`.
 fn push_moved(numbers: &mut Vec<usize>, more: &[usize], from: usize, to: usize)
     requires above { All (λ number. from ≤ number) more.now }
     requires fits { All (λ number. to + (number - from) < 2 ^ 64) more.now }

@@ -219,5 +219,5 @@ fn has_text_id(members: &Map<String, Value>) -> bool
     ensures { result ≡ reads_as_text (codes "vlen-utf8")
         (get_member (codes "id") (members_view members.now.entries)) }
 {
-    matches!(member_of(members, "id").and_then(Value::as_str), Some(id) if id == "vlen-utf8")
+    member_of(members, "id").and_then(Value::as_str) == Some("vlen-utf8")
 }

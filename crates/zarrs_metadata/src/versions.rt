@@ -72,5 +72,5 @@ impl ArrayMetadata {
 fn is_version_2(value: &Value) -> bool
     ensures { result ≡ reads_as_number 2 (get (codes "zarr_format") (view value.now)) }
 {
-    matches!(value.get("zarr_format").and_then(Value::as_u64), Some(version) if version == 2)
+    value.get("zarr_format").and_then(Value::as_u64) == Some(2)
 }

@@ -24,21 +24,21 @@ impl Model for DataTypeMetadataV2 {
 }
 
 impl DataTypeMetadataV2 {
-    /// The data type of this text.
+    /// Makes the data type of this text.
     pub fn new(text: String) -> DataTypeMetadataV2
         ensures { result ≡ string_bytes text }
     {
         DataTypeMetadataV2 { text }
     }
 
-    /// The text.
+    /// Returns the text.
     pub fn as_str(&self) -> &str
         ensures { result.now ≡ self.now }
     {
         self.text.as_str()
     }
 
-    /// The data type that a JSON value says: a text.
+    /// Reads the data type that a JSON value says: a text.
     pub fn from_value(value: Value) -> Option<DataTypeMetadataV2>
         ensures { result ≡ as_str (view value) }
     {
@@ -48,7 +48,7 @@ impl DataTypeMetadataV2 {
         }
     }
 
-    /// The JSON value of this data type.
+    /// Returns the JSON value of this data type.
     ///
     /// # Errors
     /// `AllocError`: out of memory.
@@ -58,7 +58,7 @@ impl DataTypeMetadataV2 {
         Value::try_from_str(alloc, self.text.as_str())
     }
 
-    /// The same data type.
+    /// Returns a copy.
     ///
     /// # Errors
     /// `AllocError`: out of memory.

@@ -27,7 +27,7 @@ pub struct MetadataV3 {
 impl MetadataV3 {
     ghost use Rattle.zarrs_metadata_parts.specs.Extension.{extension_view};
 
-    /// An extension without configuration, which must be understood.
+    /// Makes an extension without configuration, which must be understood.
     pub fn new(name: String) -> MetadataV3
         ensures { extension_view result ≡ named (string_bytes name) }
     {
@@ -38,7 +38,7 @@ impl MetadataV3 {
         }
     }
 
-    /// An extension with a configuration, which must be understood.
+    /// Makes an extension with a configuration, which must be understood.
     pub fn new_with_configuration(name: String, configuration: Map<String, Value>) -> MetadataV3
         ensures { extension_view result ≡ record {
           name = string_bytes name;
@@ -132,7 +132,7 @@ impl MetadataV3 {
         })
     }
 
-    /// The same extension point.
+    /// Returns a copy.
     ///
     /// # Errors
     /// `AllocError`: out of memory.

@@ -28,7 +28,7 @@ pub enum FillValueMetadata {
 impl FillValueMetadata {
     ghost use Rattle.zarrs_metadata_parts.specs.FillValue.{fill_data};
 
-    /// The fill value that a JSON value says. Each says one.
+    /// Reads the fill value that a JSON value says. Each says one.
     pub fn from_value(value: Value) -> FillValueMetadata
         ensures { fill_data result ≡ view value }
     {
@@ -42,7 +42,7 @@ impl FillValueMetadata {
         }
     }
 
-    /// The JSON value of this fill value.
+    /// Returns the JSON value of this fill value.
     pub fn into_value(self) -> Value
         ensures { view result ≡ fill_data self }
     {
@@ -66,7 +66,7 @@ impl FillValueMetadata {
         Ok(self.try_clone(alloc)?.into_value())
     }
 
-    /// The same fill value.
+    /// Returns a copy.
     ///
     /// # Errors
     /// `AllocError`: out of memory.

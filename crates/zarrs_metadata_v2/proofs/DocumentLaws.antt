@@ -20,21 +20,21 @@ use Rattle.zarrs_metadata_v2.specs.Document.{DocumentV2Data, non_zero_size, chun
 
 -- ---- written one after the other
 
-pub written_in_turn : (attributes : Option Data) (m : DocumentV2Data) (v_zarr_format v_shape v_chunks v_dtype v_compressor v_fill_value v_order v_filters v_dimension_separator v_attributes : Option Data) (m_zarr_format m_shape m_chunks m_dtype m_compressor m_fill_value m_order m_filters m_dimension_separator m_attributes : Members)
-    → v_zarr_format ≡ Some (number_data 2) → m_zarr_format ≡ put_some (codes "zarr_format") v_zarr_format no_members
-    → v_shape ≡ Some (numbers_data m.shape) → m_shape ≡ put_some (codes "shape") v_shape m_zarr_format
-    → v_chunks ≡ Some (numbers_data m.chunks) → m_chunks ≡ put_some (codes "chunks") v_chunks m_shape
-    → v_dtype ≡ Some (string m.dtype) → m_dtype ≡ put_some (codes "dtype") v_dtype m_chunks
-    → v_compressor ≡ Some m.compressor → m_compressor ≡ put_some (codes "compressor") v_compressor m_dtype
-    → v_fill_value ≡ Some m.fill_value → m_fill_value ≡ put_some (codes "fill_value") v_fill_value m_compressor
-    → v_order ≡ Some (order_data m.order) → m_order ≡ put_some (codes "order") v_order m_fill_value
-    → v_filters ≡ Some m.filters → m_filters ≡ put_some (codes "filters") v_filters m_order
-    → v_dimension_separator ≡ Some (separator_data m.dimension_separator) → m_dimension_separator ≡ put_some (codes "dimension_separator") v_dimension_separator m_filters
-    → v_attributes ≡ attributes → m_attributes ≡ put_some (codes "attributes") v_attributes m_dimension_separator
+pub written_in_turn : (attributes : Option Data) (m : DocumentV2Data) (m_zarr_format m_shape m_chunks m_dtype m_compressor m_fill_value m_order m_filters m_dimension_separator m_attributes : Members)
+    → m_zarr_format ≡ put_some (codes "zarr_format") (Some (number_data 2)) no_members
+    → m_shape ≡ put_some (codes "shape") (Some (numbers_data m.shape)) m_zarr_format
+    → m_chunks ≡ put_some (codes "chunks") (Some (numbers_data m.chunks)) m_shape
+    → m_dtype ≡ put_some (codes "dtype") (Some (string m.dtype)) m_chunks
+    → m_compressor ≡ put_some (codes "compressor") (Some m.compressor) m_dtype
+    → m_fill_value ≡ put_some (codes "fill_value") (Some m.fill_value) m_compressor
+    → m_order ≡ put_some (codes "order") (Some (order_data m.order)) m_fill_value
+    → m_filters ≡ put_some (codes "filters") (Some m.filters) m_order
+    → m_dimension_separator ≡ put_some (codes "dimension_separator") (Some (separator_data m.dimension_separator)) m_filters
+    → m_attributes ≡ put_some (codes "attributes") attributes m_dimension_separator
     → object m_attributes ≡ data_v2_with attributes m
 unfolding data_v2_with
-written_in_turn attributes m v_zarr_format v_shape v_chunks v_dtype v_compressor v_fill_value v_order v_filters v_dimension_separator v_attributes m_zarr_format m_shape m_chunks m_dtype m_compressor m_fill_value m_order m_filters m_dimension_separator m_attributes i_zarr_format e_zarr_format i_shape e_shape i_chunks e_chunks i_dtype e_dtype i_compressor e_compressor i_fill_value e_fill_value i_order e_order i_filters e_filters i_dimension_separator e_dimension_separator i_attributes e_attributes =
-    rw (e_attributes, e_dimension_separator, e_filters, e_order, e_fill_value, e_compressor, e_dtype, e_chunks, e_shape, e_zarr_format, i_zarr_format, i_shape, i_chunks, i_dtype, i_compressor, i_fill_value, i_order, i_filters, i_dimension_separator, i_attributes) refl
+written_in_turn attributes m m_zarr_format m_shape m_chunks m_dtype m_compressor m_fill_value m_order m_filters m_dimension_separator m_attributes e_zarr_format e_shape e_chunks e_dtype e_compressor e_fill_value e_order e_filters e_dimension_separator e_attributes =
+    rw (e_attributes, e_dimension_separator, e_filters, e_order, e_fill_value, e_compressor, e_dtype, e_chunks, e_shape, e_zarr_format) refl
 
 -- ---- what a written document reads as
 

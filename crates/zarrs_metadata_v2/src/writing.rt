@@ -11,7 +11,7 @@ use serde_json::{Map, Value};
 use std::alloc::{AllocError, Global};
 use std::num::NonZeroU64;
 use zarrs_metadata_parts::numbers_value;
-use zarrs_metadata_v3::members::{object_value, put_member};
+use zarrs_metadata_v3::members::{object_value, put_member, put_written};
 
 /// Returns the JSON value of a document.
 pub(crate) fn document_value(alloc: Global, document: &ArrayMetadataV2) -> Result<Value, AllocError>
@@ -44,22 +44,35 @@ fn value_with(
 {
     let mut members = Map::new(alloc);
     put_member(&mut members, alloc, "zarr_format", Some(Value::from(2u64)))?;
-    let shape = numbers_value(alloc, document.shape.as_slice())?;
-    put_member(&mut members, alloc, "shape", Some(shape))?;
-    let chunks = sizes_value(alloc, &document.chunks)?;
-    put_member(&mut members, alloc, "chunks", Some(chunks))?;
-    let dtype = document.dtype.to_value(alloc)?;
-    put_member(&mut members, alloc, "dtype", Some(dtype))?;
-    let compressor = document.compressor.clone()?;
-    put_member(&mut members, alloc, "compressor", Some(compressor))?;
-    let fill_value = document.fill_value.to_value(alloc)?;
-    put_member(&mut members, alloc, "fill_value", Some(fill_value))?;
-    let order = document.order.to_value(alloc)?;
-    put_member(&mut members, alloc, "order", Some(order))?;
-    let filters = document.filters.clone()?;
-    put_member(&mut members, alloc, "filters", Some(filters))?;
-    let separator = document.dimension_separator.to_value(alloc)?;
-    put_member(&mut members, alloc, "dimension_separator", Some(separator))?;
+    put_written(
+        &mut members,
+        alloc,
+        "shape",
+        numbers_value(alloc, document.shape.as_slice()),
+    )?;
+    put_written(
+        &mut members,
+        alloc,
+        "chunks",
+        sizes_value(alloc, &document.chunks),
+    )?;
+    put_written(&mut members, alloc, "dtype", document.dtype.to_value(alloc))?;
+    put_written(
+        &mut members,
+        alloc,
+        "compressor",
+        document.compressor.clone(),
+    )?;
+    put_written(
+        &mut members,
+        alloc,
+        "fill_value",
+        document.fill_value.to_value(alloc),
+    )?;
+    put_written(&mut members, alloc, "order", document.order.to_value(alloc))?;
+    put_written(&mut members, alloc, "filters", document.filters.clone())?;
+    let separator = document.dimension_separator.to_value(alloc);
+    put_written(&mut members, alloc, "dimension_separator", separator)?;
     put_member(&mut members, alloc, "attributes", attributes)?;
     Ok(Value::Object(members))
 }

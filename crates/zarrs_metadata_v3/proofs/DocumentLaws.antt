@@ -16,22 +16,22 @@ use Rattle.zarrs_metadata_v3.proofs.MemberLemmas.{get_member-besides_none, besid
 
 -- ---- written one after the other
 
-pub written_in_turn : (m : DocumentData) (v_zarr_format v_node_type v_shape v_data_type v_chunk_grid v_chunk_key_encoding v_fill_value v_codecs v_attributes v_storage_transformers v_dimension_names : Option Data) (start m_zarr_format m_node_type m_shape m_data_type m_chunk_grid m_chunk_key_encoding m_fill_value m_codecs m_attributes m_storage_transformers m_dimension_names : Members) → start ≡ besides document_names (fields_data m.additional_fields)
-    → v_zarr_format ≡ Some (number_data 3) → m_zarr_format ≡ put_some (codes "zarr_format") v_zarr_format start
-    → v_node_type ≡ Some (string (codes "array")) → m_node_type ≡ put_some (codes "node_type") v_node_type m_zarr_format
-    → v_shape ≡ Some (numbers_data m.shape) → m_shape ≡ put_some (codes "shape") v_shape m_node_type
-    → v_data_type ≡ Some (extension_data m.data_type) → m_data_type ≡ put_some (codes "data_type") v_data_type m_shape
-    → v_chunk_grid ≡ Some (extension_data m.chunk_grid) → m_chunk_grid ≡ put_some (codes "chunk_grid") v_chunk_grid m_data_type
-    → v_chunk_key_encoding ≡ Some (extension_data m.chunk_key_encoding) → m_chunk_key_encoding ≡ put_some (codes "chunk_key_encoding") v_chunk_key_encoding m_chunk_grid
-    → v_fill_value ≡ Some m.fill_value → m_fill_value ≡ put_some (codes "fill_value") v_fill_value m_chunk_key_encoding
-    → v_codecs ≡ Some (list_data extension_data m.codecs) → m_codecs ≡ put_some (codes "codecs") v_codecs m_fill_value
-    → v_attributes ≡ object_data m.attributes → m_attributes ≡ put_some (codes "attributes") v_attributes m_codecs
-    → v_storage_transformers ≡ transformers_data m.storage_transformers → m_storage_transformers ≡ put_some (codes "storage_transformers") v_storage_transformers m_attributes
-    → v_dimension_names ≡ option_map (list_data dimension_name_data) m.dimension_names → m_dimension_names ≡ put_some (codes "dimension_names") v_dimension_names m_storage_transformers
+pub written_in_turn : (m : DocumentData) (start m_zarr_format m_node_type m_shape m_data_type m_chunk_grid m_chunk_key_encoding m_fill_value m_codecs m_attributes m_storage_transformers m_dimension_names : Members) → start ≡ besides document_names (fields_data m.additional_fields)
+    → m_zarr_format ≡ put_some (codes "zarr_format") (Some (number_data 3)) start
+    → m_node_type ≡ put_some (codes "node_type") (Some (string (codes "array"))) m_zarr_format
+    → m_shape ≡ put_some (codes "shape") (Some (numbers_data m.shape)) m_node_type
+    → m_data_type ≡ put_some (codes "data_type") (Some (extension_data m.data_type)) m_shape
+    → m_chunk_grid ≡ put_some (codes "chunk_grid") (Some (extension_data m.chunk_grid)) m_data_type
+    → m_chunk_key_encoding ≡ put_some (codes "chunk_key_encoding") (Some (extension_data m.chunk_key_encoding)) m_chunk_grid
+    → m_fill_value ≡ put_some (codes "fill_value") (Some m.fill_value) m_chunk_key_encoding
+    → m_codecs ≡ put_some (codes "codecs") (Some (list_data extension_data m.codecs)) m_fill_value
+    → m_attributes ≡ put_some (codes "attributes") (object_data m.attributes) m_codecs
+    → m_storage_transformers ≡ put_some (codes "storage_transformers") (transformers_data m.storage_transformers) m_attributes
+    → m_dimension_names ≡ put_some (codes "dimension_names") (option_map (list_data dimension_name_data) m.dimension_names) m_storage_transformers
     → object m_dimension_names ≡ data_of_document m
 unfolding data_of_document
-written_in_turn m v_zarr_format v_node_type v_shape v_data_type v_chunk_grid v_chunk_key_encoding v_fill_value v_codecs v_attributes v_storage_transformers v_dimension_names start m_zarr_format m_node_type m_shape m_data_type m_chunk_grid m_chunk_key_encoding m_fill_value m_codecs m_attributes m_storage_transformers m_dimension_names e i_zarr_format e_zarr_format i_node_type e_node_type i_shape e_shape i_data_type e_data_type i_chunk_grid e_chunk_grid i_chunk_key_encoding e_chunk_key_encoding i_fill_value e_fill_value i_codecs e_codecs i_attributes e_attributes i_storage_transformers e_storage_transformers i_dimension_names e_dimension_names =
-    rw (e_dimension_names, e_storage_transformers, e_attributes, e_codecs, e_fill_value, e_chunk_key_encoding, e_chunk_grid, e_data_type, e_shape, e_node_type, e_zarr_format, e, i_zarr_format, i_node_type, i_shape, i_data_type, i_chunk_grid, i_chunk_key_encoding, i_fill_value, i_codecs, i_attributes, i_storage_transformers, i_dimension_names) refl
+written_in_turn m start m_zarr_format m_node_type m_shape m_data_type m_chunk_grid m_chunk_key_encoding m_fill_value m_codecs m_attributes m_storage_transformers m_dimension_names e e_zarr_format e_node_type e_shape e_data_type e_chunk_grid e_chunk_key_encoding e_fill_value e_codecs e_attributes e_storage_transformers e_dimension_names =
+    rw (e_dimension_names, e_storage_transformers, e_attributes, e_codecs, e_fill_value, e_chunk_key_encoding, e_chunk_grid, e_data_type, e_shape, e_node_type, e_zarr_format, e) refl
 
 -- ---- what a written document reads as
 

@@ -1,12 +1,15 @@
 -- Members that are put in, and members by name.
 use Rattle.std.proofs.Common.{◌≡◌, ℕ, List, [], ◌∷◌, Option, Some, None, Ordering, Less, Equal, Greater, nat_cmp, is_eq}
-use Rattle.std.proofs.Common.{Bool, true, false, if◌then◌else◌, refl, sym, ap, ◌∙◌}
+use Rattle.std.proofs.Common.{Bool, true, false, if◌then◌else◌, Result, Ok, Err, is_ok, IfOk, refl, sym, ap, ◌∙◌}
+use Rattle.std.proofs.lemmas.Bool.{false≢true}
 use Rattle.std.proofs.lemmas.Cmp.{nat_list_cmp_total, tied_itself}
 use Rattle.std.proofs.lemmas.Map.Text.{is_eq-slice_cmp}
 use Rattle.std.proofs.lemmas.Slice.Eq.{bytes_eq-Decides}
 use Rattle.std.specs.Cmp.Lexicographic.{slice_cmp}
 use Rattle.serde_json.specs.Data.{Data, Members, no_members, member, put}
 use Rattle.serde_json.specs.Find.{get_member}
+use Rattle.serde_json.specs.View.{view}
+use Rattle.serde_json.specs.declared.value.Value.{Value}
 use Rattle.serde_json.proofs.Views.{get_member-put, get_member-put_other}
 use Rattle.zarrs_metadata_parts.specs.Members.{is_named, besides}
 use Rattle.zarrs_metadata_v3.specs.Members.{put_some, put_all}
@@ -111,3 +114,13 @@ besides-put_all names [] ms is = refl
 besides-put_all names (e ∷ es) ms is =
     let both = first_named (is_named names e.0) (all_named names es) is in
     besides-put_some names e.0 e.1 (put_all es ms) both.0 ∙ besides-put_all names es ms both.1
+
+-- ---- members that were put in
+
+pub put_member_is : (key : List ℕ) (o p : Option Data) (old new : Members) → new ≡ put_some key o old → o ≡ p → new ≡ put_some key p old
+put_member_is key o p old new put is = put ∙ ap (λ x. put_some key x old) is
+
+pub put_written_is : {E : Type 0} (r : Result Value E) (key : List ℕ) (d : Data) (old new : Members) → is_ok r ≡ true → IfOk r (λ v. new ≡ put_some key (Some (view v)) old) → IfOk r (λ v. view v ≡ d)
+    → new ≡ put_some key (Some d) old
+put_written_is (Ok v) key d old new written put is = put_member_is key (Some (view v)) (Some d) old new put (ap Some is)
+put_written_is (Err e) key d old new written put is = absurd (false≢true written)

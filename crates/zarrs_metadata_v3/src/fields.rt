@@ -90,7 +90,7 @@ impl AdditionalFieldV3 {
 fn is_unneeded(value: &Value) -> bool
     ensures { result ≡ is_unneeded (view value.now) }
 {
-    matches!(value.get("must_understand").and_then(Value::as_bool), Some(must) if !must)
+    value.get("must_understand").and_then(Value::as_bool) == Some(false)
 }
 
 fn without_flag(value: Value) -> Value

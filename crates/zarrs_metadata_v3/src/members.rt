@@ -1,6 +1,6 @@
 //! Steps on the members of an object.
 ghost use Rattle.std.specs.Prelude.{◌≡◌, codes, option_map, option_and_then, Some, IfOk, IfErr};
-ghost use Rattle.std.specs.Prelude.{OnOk, OnErr, is_none};
+ghost use Rattle.std.specs.Prelude.{OnOk, OnErr, is_none, is_ok, true};
 ghost use Rattle.serde_json.specs.Find.{get_member, as_array, as_object};
 ghost use Rattle.serde_json.specs.View.{view, items_view, members_view};
 ghost use Rattle.zarrs_metadata_parts.specs.Members.{nonempty};
@@ -61,6 +61,23 @@ pub fn put_member(
     }
 }
 
+/// Puts the value in, if there is one, over a member of that name.
+///
+/// # Errors
+/// That of the value. `AllocError`: out of memory.
+pub fn put_written(
+    members: &mut Map<String, Value>,
+    alloc: Global,
+    name: &str,
+    value: Result<Value, AllocError>,
+) -> Result<(), AllocError>
+    ensures written { OnOk result (is_ok value ≡ true) }
+    ensures put { OnOk result (IfOk value (λ v. members_view members.new.entries
+        ≡ put_some name.now (Some (view v)) (members_view members.old.entries))) }
+{
+    serde_json::put(members, alloc, name, value?)
+}
+
 /// Returns the items of a list, or `None` for any other value and for an absent one.
 pub fn items_in(member: Option<Value>) -> Option<Vec<Value>>
     ensures { option_map (λ v. items_view v.items) result
@@ -72,7 +89,7 @@ pub fn items_in(member: Option<Value>) -> Option<Vec<Value>>
     }
 }
 
-/// Returns the member of this name, which must be there.
+/// Returns the member of this name, which must be present.
 ///
 /// # Errors
 /// `Missing` if it is not.
@@ -146,14 +163,14 @@ pub fn object_value(members: &Map<String, Value>) -> Result<Option<Value>, Alloc
 pub fn reads_as_number(member: &Option<Value>, wanted: u64) -> bool
     ensures { result ≡ reads_as_number wanted (option_map view member.now) }
 {
-    matches!(member.as_ref().and_then(Value::as_u64), Some(number) if number == wanted)
+    member.as_ref().and_then(Value::as_u64) == Some(wanted)
 }
 
 /// Returns whether the member is this text.
 pub fn reads_as_text(member: &Option<Value>, wanted: &str) -> bool
     ensures { result ≡ reads_as_text wanted.now (option_map view member.now) }
 {
-    matches!(member.as_ref().and_then(Value::as_str), Some(text) if text == wanted)
+    member.as_ref().and_then(Value::as_str) == Some(wanted)
 }
 
 /// Reads the list of whole numbers below 2^64 that the member of this name is.

@@ -8,7 +8,7 @@ ghost use Rattle.zarrs_metadata_v3.specs.View.{name_view, document_view};
 
 use crate::document::{ArrayMetadataV3, DimensionName};
 use crate::fields::written_fields;
-use crate::members::{object_value, put_member};
+use crate::members::{object_value, put_member, put_written};
 use crate::reading::other_members;
 use serde_json::Value;
 use std::alloc::{AllocError, Global};
@@ -21,25 +21,44 @@ pub(crate) fn document_value(alloc: Global, document: &ArrayMetadataV3) -> Resul
     let fields = written_fields(alloc, &document.additional_fields)?;
     let mut members = other_members(fields);
     put_member(&mut members, alloc, "zarr_format", Some(Value::from(3u64)))?;
-    let node_type = Value::try_from_str(alloc, "array")?;
-    put_member(&mut members, alloc, "node_type", Some(node_type))?;
-    let shape = numbers_value(alloc, document.shape.as_slice())?;
-    put_member(&mut members, alloc, "shape", Some(shape))?;
-    let data_type = document.data_type.to_value(alloc)?;
-    put_member(&mut members, alloc, "data_type", Some(data_type))?;
-    let chunk_grid = document.chunk_grid.to_value(alloc)?;
-    put_member(&mut members, alloc, "chunk_grid", Some(chunk_grid))?;
-    let key_encoding = document.chunk_key_encoding.to_value(alloc)?;
-    put_member(
+    put_written(
         &mut members,
         alloc,
-        "chunk_key_encoding",
-        Some(key_encoding),
+        "node_type",
+        Value::try_from_str(alloc, "array"),
     )?;
-    let fill_value = document.fill_value.to_value(alloc)?;
-    put_member(&mut members, alloc, "fill_value", Some(fill_value))?;
-    let codecs = extensions_value(alloc, &document.codecs)?;
-    put_member(&mut members, alloc, "codecs", Some(codecs))?;
+    put_written(
+        &mut members,
+        alloc,
+        "shape",
+        numbers_value(alloc, document.shape.as_slice()),
+    )?;
+    put_written(
+        &mut members,
+        alloc,
+        "data_type",
+        document.data_type.to_value(alloc),
+    )?;
+    put_written(
+        &mut members,
+        alloc,
+        "chunk_grid",
+        document.chunk_grid.to_value(alloc),
+    )?;
+    let key_encoding = document.chunk_key_encoding.to_value(alloc);
+    put_written(&mut members, alloc, "chunk_key_encoding", key_encoding)?;
+    put_written(
+        &mut members,
+        alloc,
+        "fill_value",
+        document.fill_value.to_value(alloc),
+    )?;
+    put_written(
+        &mut members,
+        alloc,
+        "codecs",
+        extensions_value(alloc, &document.codecs),
+    )?;
     let attributes = object_value(&document.attributes)?;
     put_member(&mut members, alloc, "attributes", attributes)?;
     let transformers = transformers_value(alloc, &document.storage_transformers)?;

@@ -3,7 +3,7 @@ use Rattle.std.proofs.Common.{◌≡◌, ℕ, zero, suc, ◌+◌, ◌-◌, ◌^�
 use Rattle.std.proofs.Common.{◌∷◌, length, get_or, slice_index, refl, arith, inl, inr}
 use Rattle.std.proofs.lemmas.Bool.{cases_lt}
 use Rattle.std.proofs.lemmas.Bool.Decides.{nat_tests}
-use Rattle.std.proofs.lemmas.List.{get_or_past}
+use Rattle.std.proofs.lemmas.List.{get_or_past, get_or_read}
 use Rattle.zarrs_subset.specs.Boxes.{InShape, in_range, is_within, zip_with, ends, EndsFit, overlap_start, overlap_extents, offset_by}
 
 pub length-zip_with : (f : ℕ → ℕ → ℕ) (xs ys : List ℕ) → length xs ≡ length ys → length (zip_with f xs ys) ≡ length xs
@@ -36,6 +36,14 @@ EndsFit-below start extents l h k =
           let second : get_or extents k 0 ≡ 0 = get_or_past extents k 0 (omega arith) in
           omega arith
     ]
+
+-- the end along a dimension whose start and extent are read
+pub end_fits : (start extents : List ℕ) (k first extent : ℕ) → EndsFit start extents → length start ≡ length extents → k < length start
+    → first ≡ get_or start k first → extent ≡ get_or extents k extent → first + extent < 2 ^ 64
+end_fits start extents k first extent fits l below at_start at_extent =
+    let start_is : first ≡ get_or start k 0 = get_or_read start k first below at_start 0 in
+    let extent_is : extent ≡ get_or extents k 0 = get_or_read extents k extent (omega arith) at_extent 0 in
+    omega (arith, fits k, start_is, extent_is)
 
 EndsFit-inner : (s e : ℕ) (start extents : List ℕ) → EndsFit (s ∷ start) (e ∷ extents) → EndsFit start extents
 EndsFit-inner s e start extents h k = h (suc k)

@@ -90,7 +90,7 @@ fn is_repeated(bytes: &[u8], piece: &[u8]) -> bool
     &bytes[..width] == piece && &bytes[width..whole] == &bytes[..whole - width]
 }
 
-/// Whether each byte is this one. It stops at no byte, so that many are compared at a time.
+/// Whether each byte is this one. It never stops early, so that the compiler tests many bytes at a time.
 fn are_all(bytes: &[u8], byte: u8) -> bool
     ensures { result ≡ list_all (λ b. b == byte) bytes.now }
 {

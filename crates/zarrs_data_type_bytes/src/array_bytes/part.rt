@@ -8,7 +8,7 @@ ghost use Rattle.zarrs_subset.specs.Boxes.{position_count};
 ghost use Rattle.zarrs_subset.specs.Regions.{box_of};
 ghost use Rattle.zarrs_data_type_kinds.specs.Kind.{kind};
 
-use super::{ArrayBytes, ArrayBytesOptional};
+use super::{ArrayBytes, ArrayBytesOptional, owned_bytes};
 use crate::boxes::bytes_with_part;
 use crate::placed_strings::PlacedStrings;
 use crate::variable::ArrayBytesVariableLength;
@@ -113,7 +113,7 @@ fn fixed_with_part(
         unreachable!()
     };
     let size = data_type.element_size().unwrap();
-    let bytes = bytes.into_owned(alloc)?;
+    let bytes = owned_bytes(alloc, bytes)?;
     let made = bytes_with_part(bytes, size, held_box, given.as_slice(), part_box);
     Ok(ArrayBytes::new_flen(made))
 }

@@ -1,4 +1,5 @@
-use Rattle.std.proofs.Common.{arith, ◌≡◌, ◌*◌, length, refl, sym, ap, subst, ◌∙◌}
+use Rattle.std.proofs.lemmas.List.{length-take-le, length-drop}
+use Rattle.std.proofs.Common.{arith, ◌≡◌, ◌+◌, ◌≤◌, ◌*◌, drop, length, refl, sym, ap, subst, ◌∙◌}
 use Rattle.std.proofs.lemmas.Bool.{false≢true}
 use Rattle.zarrs_subset.proofs.Overlaps.{AllSome}
 use Rattle.zarrs_subset.specs.Boxes.{InShape, without_ones}
@@ -111,3 +112,10 @@ returns-clause-bytes g c =
     (c.deref-2.ensures.value ∙ c.in_ok-kept_start.ensures ∙ ap (without_ones shape) c.start-start.ensures)
     (c.deref-3.ensures.value ∙ c.in_ok-kept_extents.ensures ∙ ap (without_ones shape) c.shape-extents.ensures)
     c.requires.part some c.in_ok-made.ensures.items c.in_ok-read_rows.ensures.bytes
+
+pub gathered-requires-clause-array_len : goal.gathered-requires-clause-array_len
+gathered-requires-clause-array_len g c =
+    let window = c.args.window in
+    let bytes = c.in-Some.bytes.now in
+    let inside : window.offset + window.len ≤ length bytes = omega (arith, c.requires.window, ap length c.in-Some.ensures.lends.all) in
+    omega (arith, ap length c.slice.ensures ∙ length-take-le window.len (drop window.offset bytes) (omega (arith, inside, length-drop window.offset bytes)), c.requires.len)

@@ -1,17 +1,13 @@
-use Rattle.std.proofs.Common.{◌≡◌, map, ap, ◌∙◌, arith}
-use Rattle.std.proofs.lemmas.List.{take_all}
-use Rattle.serde_json.specs.Data.{array}
-use Rattle.serde_json.specs.View.{view, items_of}
-use Rattle.serde_json.specs.declared.value.Value.{Array}
-use Rattle.serde_json.proofs.Views.{view-Array}
-use Rattle.zarrs_metadata_parts.specs.Lists.{number_data, numbers_of, numbers_data}
-use Rattle.zarrs_metadata_parts.proofs.ListLemmas.{numbers_of-numbers_data}
+use Rattle.std.proofs.Common.{ap, ◌∙◌}
+use Rattle.zarrs_metadata_parts.specs.Lists.{number_data, numbers_of}
+use Rattle.zarrs_metadata_parts.proofs.ListLemmas.{list_written, numbers_of-numbers_data}
 use Rattle.zarrs_metadata_parts.proofs.lists.numbers_value.Goals as goal
+
+pub returns-clause-written : goal.returns-clause-written
+returns-clause-written c =
+    list_written number_data (λ l. l) c.args.numbers.now c.loop-number.number-index c.loop-number.values c.loop-number-test.false c.loop-number.invariant
 
 pub returns-clause-reads_back : goal.returns-clause-reads_back
 returns-clause-reads_back c =
-    let all : map view c.loop-number.values.items ≡ map number_data c.args.numbers.now =
-    c.loop-number.invariant ∙ ap (map number_data) (take_all c.loop-number.number-index c.args.numbers.now (omega arith)) in
-    let written : view (Array c.loop-number.values) ≡ numbers_data c.args.numbers.now =
-    view-Array c.loop-number.values ∙ ap (λ ds. array (items_of ds)) all in
-    ap numbers_of written ∙ numbers_of-numbers_data c.args.numbers.now
+    ap numbers_of (list_written number_data (λ l. l) c.args.numbers.now c.loop-number.number-index c.loop-number.values c.loop-number-test.false c.loop-number.invariant)
+    ∙ numbers_of-numbers_data c.args.numbers.now

@@ -1,49 +1,40 @@
-use Rattle.std.proofs.Common.{Some, option_map, ap, ◌∙◌}
-use Rattle.serde_json.specs.View.{view, members_view}
+use Rattle.std.proofs.Common.{Some, codes, ap, ◌∙◌}
+use Rattle.std.proofs.lemmas.Result.{IfOk-weaker}
+use Rattle.serde_json.specs.View.{members_view}
 use Rattle.serde_json.proofs.Views.{view-Object}
 use Rattle.zarrs_metadata_parts.specs.Members.{besides}
 use Rattle.zarrs_metadata_parts.specs.Lists.{numbers_data}
 use Rattle.zarrs_metadata_v3.specs.Document.{document_names}
 use Rattle.zarrs_metadata_v3.specs.View.{document_view}
 use Rattle.zarrs_metadata_v3.proofs.DocumentLaws.{written_in_turn}
+use Rattle.zarrs_metadata_v3.proofs.MemberLemmas.{put_member_is, put_written_is}
 use Rattle.zarrs_metadata_v3.proofs.writing.document_value.Goals as goal
 
 pub returns : goal.returns
 returns c =
-    view-Object c.put_member-11.new.members
+    view-Object c.put_member-4.new.members
     ∙ written_in_turn (document_view c.args.document.now)
-    (Some (view c.from.result))
-    (Some (view c.in_ok-node_type.node_type))
-    (Some (view c.in_ok-shape.shape))
-    (Some (view c.in_ok-data_type.data_type))
-    (Some (view c.in_ok-chunk_grid.chunk_grid))
-    (Some (view c.in_ok-key_encoding.key_encoding))
-    (Some (view c.in_ok-fill_value.fill_value))
-    (Some (view c.in_ok-codecs.codecs))
-    (option_map view c.in_ok-attributes.attributes)
-    (option_map view c.in_ok-transformers.transformers)
-    (option_map view c.in_ok-names.names)
     (members_view c.other_members-members.result.entries)
     (members_view c.put_member.new.members.entries)
+    (members_view c.put_written.new.members.entries)
+    (members_view c.put_written-2.new.members.entries)
+    (members_view c.put_written-3.new.members.entries)
+    (members_view c.put_written-4.new.members.entries)
+    (members_view c.put_written-5.new.members.entries)
+    (members_view c.put_written-6.new.members.entries)
+    (members_view c.put_written-7.new.members.entries)
     (members_view c.put_member-2.new.members.entries)
     (members_view c.put_member-3.new.members.entries)
     (members_view c.put_member-4.new.members.entries)
-    (members_view c.put_member-5.new.members.entries)
-    (members_view c.put_member-6.new.members.entries)
-    (members_view c.put_member-7.new.members.entries)
-    (members_view c.put_member-8.new.members.entries)
-    (members_view c.put_member-9.new.members.entries)
-    (members_view c.put_member-10.new.members.entries)
-    (members_view c.put_member-11.new.members.entries)
     (c.other_members-members.ensures ∙ ap (besides document_names) c.in_ok-fields.ensures)
-    (ap Some c.from.ensures) c.in_ok-put_member.ensures.put
-    (ap Some c.in_ok-node_type.ensures) c.in_ok-put_member-2.ensures.put
-    (ap Some (c.in_ok-shape.ensures.written ∙ ap numbers_data c.as_slice.ensures.value)) c.in_ok-put_member-3.ensures.put
-    (ap Some c.in_ok-data_type.ensures.written) c.in_ok-put_member-4.ensures.put
-    (ap Some c.in_ok-chunk_grid.ensures.written) c.in_ok-put_member-5.ensures.put
-    (ap Some c.in_ok-key_encoding.ensures.written) c.in_ok-put_member-6.ensures.put
-    (ap Some c.in_ok-fill_value.ensures) c.in_ok-put_member-7.ensures.put
-    (ap Some c.in_ok-codecs.ensures) c.in_ok-put_member-8.ensures.put
-    (c.in_ok-attributes.ensures) c.in_ok-put_member-9.ensures.put
-    (c.in_ok-transformers.ensures) c.in_ok-put_member-10.ensures.put
-    (c.in_ok-names.ensures) c.in_ok-put_member-11.ensures.put
+    (put_member_is (codes "zarr_format") _ _ (members_view c.other_members-members.result.entries) _ c.in_ok-put_member.ensures.put (ap Some c.from.ensures))
+    (put_written_is c.try_from_str.result (codes "node_type") _ (members_view c.put_member.new.members.entries) _ c.in_ok-put_written.ensures.written c.in_ok-put_written.ensures.put c.try_from_str.ensures)
+    (put_written_is c.numbers_value.result (codes "shape") _ (members_view c.put_written.new.members.entries) _ c.in_ok-put_written-2.ensures.written c.in_ok-put_written-2.ensures.put (IfOk-weaker c.numbers_value.result _ _ (λ v h. h ∙ ap numbers_data c.as_slice.ensures.value) c.numbers_value.ensures.written))
+    (put_written_is c.to_value.result (codes "data_type") _ (members_view c.put_written-2.new.members.entries) _ c.in_ok-put_written-3.ensures.written c.in_ok-put_written-3.ensures.put c.to_value.ensures.written)
+    (put_written_is c.to_value-2.result (codes "chunk_grid") _ (members_view c.put_written-3.new.members.entries) _ c.in_ok-put_written-4.ensures.written c.in_ok-put_written-4.ensures.put c.to_value-2.ensures.written)
+    (put_written_is c.to_value-key_encoding.result (codes "chunk_key_encoding") _ (members_view c.put_written-4.new.members.entries) _ c.in_ok-put_written-5.ensures.written c.in_ok-put_written-5.ensures.put c.to_value-key_encoding.ensures.written)
+    (put_written_is c.to_value-3.result (codes "fill_value") _ (members_view c.put_written-5.new.members.entries) _ c.in_ok-put_written-6.ensures.written c.in_ok-put_written-6.ensures.put c.to_value-3.ensures)
+    (put_written_is c.extensions_value.result (codes "codecs") _ (members_view c.put_written-6.new.members.entries) _ c.in_ok-put_written-7.ensures.written c.in_ok-put_written-7.ensures.put c.extensions_value.ensures)
+    (put_member_is (codes "attributes") _ _ (members_view c.put_written-7.new.members.entries) _ c.in_ok-put_member-2.ensures.put c.in_ok-attributes.ensures)
+    (put_member_is (codes "storage_transformers") _ _ (members_view c.put_member-2.new.members.entries) _ c.in_ok-put_member-3.ensures.put c.in_ok-transformers.ensures)
+    (put_member_is (codes "dimension_names") _ _ (members_view c.put_member-3.new.members.entries) _ c.in_ok-put_member-4.ensures.put c.in_ok-names.ensures)

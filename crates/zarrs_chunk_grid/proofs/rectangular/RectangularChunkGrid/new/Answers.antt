@@ -38,3 +38,8 @@ invariant_of-result-clause-counted c =
     let same = c.in_ok-check_length.ensures.ok in
     counts_from c.args.sizes.items c.args.array_shape.items c.loop-dimension.grid_shape.items (omega arith) (omega (arith, c.loop-dimension.invariant.long))
     (λ k d h. c.loop-dimension.invariant.counted k d (omega arith))
+
+pub push_reserved-requires : goal.push_reserved-requires
+push_reserved-requires c =
+    let l = c.loop-dimension in
+    omega (arith, l.grid_shape.ok.0, l.invariant.long, l.invariant.room, c.loop-dimension-test.true, c.len-dimension-end.ensures)

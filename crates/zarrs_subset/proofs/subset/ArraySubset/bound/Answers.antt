@@ -1,9 +1,15 @@
 use Rattle.std.proofs.Common.{rules, arith, ◌≡◌, ◌+◌, ◌-◌, ◌<◌, length, slice_index, min, sym, refl, ◌∙◌}
 use Rattle.std.proofs.lemmas.List.{get_or_read_under}
 use Rattle.zarrs_subset.specs.Regions.{box_of, bound_to}
-use Rattle.zarrs_subset.proofs.Overlaps.{EndsFit-bound, length-bound}
+use Rattle.zarrs_subset.proofs.Overlaps.{EndsFit-bound, end_fits, length-bound}
 use Rattle.zarrs_subset.proofs.Shared.{cut_more, cut_starts, cut_extents}
 use Rattle.zarrs_subset.proofs.subset.ArraySubset.bound.Goals as goal
+
+pub overflow_add-index : goal.overflow_add-index
+overflow_add-index c =
+    let a = c.args.self.now in
+    let below : c.loop-k.k < length a.start.items = omega (arith, c.loop-k-test.true, c.len-dimensions.ensures, a.start.ok.0) in
+    omega (arith, end_fits a.start.items a.shape.items c.loop-k.k _ _ a.ends_fit a.same_length below c.index-in-loop-k.ensures c.index-in-loop-k-2.ensures)
 
 pub loop-k-preserved : goal.loop-k-preserved
 loop-k-preserved c =
@@ -11,7 +17,7 @@ loop-k-preserved c =
     let E = c.args.end.now in
     let k = c.loop-k.k in
     let count = c.len-dimensions.result in
-    let count_is : count ≡ length a.start.items = search rules in
+    let count_is : count ≡ length a.start.items = omega (arith, c.len-dimensions.ensures, a.start.ok.0) in
     let below : k < count = c.loop-k-test.true in
     let start : c.index.result.now ≡ slice_index a.start.items k = get_or_read_under a.start.items k count _ 0 c.index.ensures below count_is in
     let again : c.index-in-loop-k.result.now ≡ slice_index a.start.items k = get_or_read_under a.start.items k count _ 0 c.index-in-loop-k.ensures below count_is in
@@ -31,7 +37,7 @@ pub invariant_of-result : goal.invariant_of-result
 invariant_of-result c =
     let a = c.args.self.now in
     let end = c.args.end.now in
-    let same : length a.start.items ≡ length end = search rules in
+    let same : length a.start.items ≡ length end = omega (arith, c.in_ok-check_length.ensures.ok, c.len.ensures, a.start.ok.0) in
     let all : c.loop-k.k ≡ length a.start.items = omega (arith, c.len-dimensions.ensures) in
     let start : c.loop-k.start.items ≡ (bound_to (box_of a) end).start = cut_starts _ _ _ _ _ c.loop-k.k same all c.loop-k.invariant.cut in
     let shape : c.loop-k.shape.items ≡ (bound_to (box_of a) end).shape = cut_extents _ _ _ _ _ c.loop-k.k a.same_length same all c.loop-k.invariant.cut in
@@ -44,8 +50,9 @@ pub returns-clause-value : goal.returns-clause-value
 returns-clause-value c =
     let a = c.args.self.now in
     let end = c.args.end.now in
-    let same : length a.start.items ≡ length end = search rules in
+    let same : length a.start.items ≡ length end = omega (arith, c.in_ok-check_length.ensures.ok, c.len.ensures, a.start.ok.0) in
     let all : c.loop-k.k ≡ length a.start.items = omega (arith, c.len-dimensions.ensures) in
     let start : c.loop-k.start.items ≡ (bound_to (box_of a) end).start = cut_starts _ _ _ _ _ c.loop-k.k same all c.loop-k.invariant.cut in
     let shape : c.loop-k.shape.items ≡ (bound_to (box_of a) end).shape = cut_extents _ _ _ _ _ c.loop-k.k a.same_length same all c.loop-k.invariant.cut in
     rw (start, shape) refl
+
