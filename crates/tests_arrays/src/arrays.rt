@@ -42,17 +42,17 @@ fn must_have_keys(rt: &impl Abort, alloc: Global, array: &MemoryArray, count: us
     must_eq(rt, keys.len(), count);
 }
 
-fn must_have_a_shape(rt: &impl Abort, array: &MemoryArray) {
+/// The array has the path, the shape, the grid and the names of its document, and so many attributes.
+fn must_be_as_written(rt: &impl Abort, array: &MemoryArray, attributes: usize) {
     must_eq(rt, array.path().as_str(), "/a");
-    must_eq(rt, array.shape(), [4, 4].as_slice());
-    must_eq(rt, array.dimensionality(), 2);
-    must_eq(rt, array.chunk_grid_shape(), [2, 2].as_slice());
+    must_eq(rt, array.shape(), &[4, 4]);
+    must_eq(rt, array.chunk_grid_shape(), &[2, 2]);
+    must_eq(
+        rt,
+        (array.dimensionality(), array.attributes().len()),
+        (2, attributes),
+    );
     must(rt, matches!(array.chunk_grid(), ChunkGrid::Regular(_)));
-}
-
-/// The array has so many attributes, and its names.
-fn must_have_texts(rt: &impl Abort, array: &MemoryArray, attributes: usize) {
-    must_eq(rt, array.attributes().len(), attributes);
     must(rt, matches!(array.dimension_names(), Some([_, None])));
     must(rt, matches!(array.metadata(), ArrayMetadata::V3(_)));
     let _transformers = array.storage_transformers();
@@ -60,7 +60,7 @@ fn must_have_texts(rt: &impl Abort, array: &MemoryArray, attributes: usize) {
 
 fn must_have_cells(rt: &impl Abort, array: &MemoryArray) {
     must(rt, matches!(array.data_type(), DataType::UInt8));
-    must_eq(rt, array.fill_value().as_bytes(), [7].as_slice());
+    must_eq(rt, array.fill_value().as_bytes(), &[7]);
     let keys = array.chunk_key_encoding();
     must(
         rt,
@@ -68,8 +68,10 @@ fn must_have_cells(rt: &impl Abort, array: &MemoryArray) {
     );
     let codecs = array.codecs();
     must(rt, codecs.array_to_array_codecs().is_empty());
-    let codec = codecs.array_to_bytes_codec();
-    must(rt, matches!(codec, ArrayToBytesCodec::Bytes(_)));
+    must(
+        rt,
+        matches!(codecs.array_to_bytes_codec(), ArrayToBytesCodec::Bytes(_)),
+    );
 }
 
 /// What is printed of an array has no store.
@@ -77,17 +79,6 @@ fn must_be_printed(rt: &impl Abort, alloc: Global, array: &MemoryArray) {
     let text = format!(in alloc; "{array:?}").expect(rt, "no refusal");
     must(rt, text.as_str().starts_with("Array"));
     must(rt, !text.as_str().contains("MemoryStore"));
-}
-
-#[test]
-fn an_array_has_the_parts_of_its_document(rt: HostRuntime) {
-    let alloc = rt.alloc();
-    let array = array(&rt, alloc);
-    must_have_a_shape(&rt, &array);
-    must_have_cells(&rt, &array);
-    must_have_texts(&rt, &array, 1);
-    must_be_printed(&rt, alloc, &array);
-    drop(array);
 }
 
 /// The options that keep empty chunks.
@@ -129,18 +120,31 @@ fn set_default_options(array: &mut MemoryArray) {
         .set_metadata_options(ArrayMetadataOptions::default());
 }
 
-/// An array has the options that it was given. A call without options takes the default ones.
+/// The array of the document, with options that it is given.
+fn with_options(rt: &impl Abort, alloc: Global) -> MemoryArray {
+    array(rt, alloc)
+        .with_codec_options(keeping())
+        .with_codec_specific_options(&CodecSpecificOptions::default())
+        .with_metadata_options(plain())
+}
+
+/// An array has the parts of its document, and the options that it was given. A call without options takes the default ones.
 #[test]
-fn options_are_those_that_were_set(rt: HostRuntime) {
+fn an_array_has_its_parts_and_its_options(rt: HostRuntime) {
     let alloc = rt.alloc();
-    let array = array(&rt, alloc).with_codec_options(keeping());
-    let array = array.with_codec_specific_options(&CodecSpecificOptions::default());
-    let mut array = array.with_metadata_options(plain());
+    let mut array = with_options(&rt, alloc);
+    must_be_as_written(&rt, &array, 1);
+    must_have_cells(&rt, &array);
+    must_be_printed(&rt, alloc, &array);
     must_have_options(&rt, &array, keeping(), plain());
     store_fill(&rt, alloc, &mut array);
     set_default_options(&mut array);
-    let options = (CodecOptions::default(), ArrayMetadataOptions::default());
-    must_have_options(&rt, &array, options.0, options.1);
+    must_have_options(
+        &rt,
+        &array,
+        CodecOptions::default(),
+        ArrayMetadataOptions::default(),
+    );
     drop(array);
 }
 
@@ -168,8 +172,7 @@ fn an_array_is_written_opened_and_erased(rt: HostRuntime) {
     let alloc = rt.alloc();
     let array = Array::open(alloc, written(&rt, alloc), "/a");
     let mut array = array.expect(&rt, "no refusal");
-    must_have_a_shape(&rt, &array);
-    must_have_texts(&rt, &array, 2);
+    must_be_as_written(&rt, &array, 2);
     must_have_keys(&rt, alloc, &array, 1);
     array.erase_metadata(alloc).expect(&rt, "no refusal");
     must_have_keys(&rt, alloc, &array, 0);

@@ -11,7 +11,7 @@ use zarrs_builder::ArrayBuilder;
 fn must_be_built(rt: &impl Abort, array: Result<Array<MemoryStore>, ArrayCreateError>) {
     let array = array.expect(rt, "no refusal");
     must_eq(rt, array.path().as_str(), "/array");
-    must_eq(rt, array.shape(), [8, 8].as_slice());
+    must_eq(rt, array.shape(), &[8, 8]);
     drop(array);
 }
 

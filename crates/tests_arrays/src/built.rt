@@ -26,12 +26,22 @@ fn measured_places(alloc: Global, attributes: Map<String, Value>) -> ArrayBuilde
     builder
 }
 
-/// Rainfall in millimetres at these places. Its metadata is in its store.
-pub fn rainfall(alloc: Global, storage: MemoryStore, path: &str) -> Result<Array<MemoryStore>> {
-    let builder = measured_places(alloc, in_unit(alloc, "mm")?);
+/// The array that the builder makes. Its metadata is in its store.
+fn stored(
+    alloc: Global,
+    builder: &ArrayBuilder,
+    storage: MemoryStore,
+    path: &str,
+) -> Result<Array<MemoryStore>> {
     let mut array = builder.build(alloc, storage, path)?;
     array.store_metadata(alloc)?;
     Ok(array)
+}
+
+/// Rainfall in millimetres at these places.
+pub fn rainfall(alloc: Global, storage: MemoryStore, path: &str) -> Result<Array<MemoryStore>> {
+    let builder = measured_places(alloc, in_unit(alloc, "mm")?);
+    stored(alloc, &builder, storage, path)
 }
 
 /// The same rainfall in one chunk, which is cut into subchunks of 4 by 4.
@@ -44,9 +54,7 @@ pub fn rainfall_in_a_shard(
     builder
         .chunk_grid_metadata(alloc, [8u64, 8])
         .subchunk_shape(alloc, Some([4u64, 4]));
-    let mut array = builder.build(alloc, storage, path)?;
-    array.store_metadata(alloc)?;
-    Ok(array)
+    stored(alloc, &builder, storage, path)
 }
 
 /// The unit of the cells, if the attributes say one.

@@ -2,7 +2,7 @@
 use crate::changes::{numbers_in, resize_and_store, upgrade};
 use crate::checks::must;
 use crate::made::{holding, list_of};
-use crate::texts::{ages, names};
+use crate::texts::{ages, names, store_ages, store_names};
 use crate::tiles::{compact, have_equal_chunks, store_first_tile, tiles};
 use std::alloc::Global;
 use std::fmt::Debug;
@@ -70,7 +70,9 @@ fn must_print<T: Debug>(rt: &impl Abort, alloc: Global, value: &T, text: &str) {
 #[test]
 fn texts_and_missing_values_are_stored(rt: HostRuntime) {
     let alloc = rt.alloc();
-    let names = names(alloc).expect(&rt, "no refusal");
+    let mut array = names(alloc).expect(&rt, "no refusal");
+    let names = store_names(alloc, &mut array).expect(&rt, "no refusal");
+    drop(array);
     must_print(
         &rt,
         alloc,
@@ -78,7 +80,9 @@ fn texts_and_missing_values_are_stored(rt: HostRuntime) {
         r#"["nobody", "Ada", "Grace", "nobody"]"#,
     );
     drop(names);
-    let ages = ages(alloc).expect(&rt, "no refusal");
+    let mut array = ages(alloc).expect(&rt, "no refusal");
+    let ages = store_ages(alloc, &mut array).expect(&rt, "no refusal");
+    drop(array);
     must_print(&rt, alloc, &ages, "[Some(36), None, None]");
     drop(ages);
 }

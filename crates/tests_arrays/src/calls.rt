@@ -59,44 +59,26 @@ fn must_read_elements(rt: &impl Abort, alloc: Global, array: &MemoryArray) {
     must(rt, found.expect(rt, "no refusal").is_some());
 }
 
-#[test]
-fn elements_are_stored_and_read(rt: HostRuntime) {
-    let alloc = rt.alloc();
-    let mut array = array(&rt, alloc);
-    store_elements(&rt, alloc, &mut array);
-    must_read_elements(&rt, alloc, &array);
-    drop(array);
-}
-
-fn must_have_extents(rt: &impl Abort, alloc: Global, array: &MemoryArray) {
-    let extents = array.chunk_shape_usize(alloc, &[0, 0]);
-    let extents = extents.expect(rt, "no refusal");
-    must_eq(rt, extents.as_slice(), [2, 2].as_slice());
-}
-
-fn set_shape(rt: &impl Abort, alloc: Global, array: &mut MemoryArray) {
+/// The extents of a chunk, and setters, each of which returns the array.
+fn must_set(rt: &impl Abort, alloc: Global, array: &mut MemoryArray) {
+    let extents = array
+        .chunk_shape_usize(alloc, &[0, 0])
+        .expect(rt, "no refusal");
+    must_eq(rt, extents.as_slice(), &[2, 2]);
     let set = array.set_shape(alloc, list_of(rt, alloc, &[9, 3]));
-    must_eq(rt, set.expect(rt, "no refusal").shape(), [9, 3].as_slice());
-}
-
-fn set_grid(rt: &impl Abort, alloc: Global, array: &mut MemoryArray) {
+    must_eq(rt, set.expect(rt, "no refusal").shape(), &[9, 3]);
     let set = array.set_shape_and_chunk_grid(alloc, list_of(rt, alloc, &[9, 9]), [3u64, 2]);
-    let counts = set.expect(rt, "no refusal").chunk_grid_shape();
-    must_eq(rt, counts, [3, 5].as_slice());
-}
-
-fn take_names(rt: &impl Abort, alloc: Global, array: &mut MemoryArray) {
+    must_eq(rt, set.expect(rt, "no refusal").chunk_grid_shape(), &[3, 5]);
     let set = array.set_dimension_names(alloc, None);
     must(rt, set.expect(rt, "no refusal").dimension_names().is_none());
 }
 
 #[test]
-fn setters_return_the_array(rt: HostRuntime) {
+fn elements_are_stored_and_read_and_parts_are_set(rt: HostRuntime) {
     let alloc = rt.alloc();
     let mut array = array(&rt, alloc);
-    must_have_extents(&rt, alloc, &array);
-    set_shape(&rt, alloc, &mut array);
-    set_grid(&rt, alloc, &mut array);
-    take_names(&rt, alloc, &mut array);
+    store_elements(&rt, alloc, &mut array);
+    must_read_elements(&rt, alloc, &array);
+    must_set(&rt, alloc, &mut array);
     drop(array);
 }

@@ -19,8 +19,9 @@ pub fn resize_and_store(
 /// Turns the array at the path into one of Zarr V3, if it is one of V2. The store stays with the caller.
 pub fn upgrade(alloc: Global, storage: &mut MemoryStore, path: &str) -> Result<()> {
     let mut array = Array::open(alloc, Lent::new(storage), path)?;
-    array.upgrade_metadata(alloc)?;
-    Ok(())
+    let upgraded = array.upgrade_metadata(alloc);
+    drop(array);
+    Ok(upgraded?)
 }
 
 /// The numbers of a region, or `None` if the chunks do not cover it.

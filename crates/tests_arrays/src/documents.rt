@@ -2,8 +2,8 @@
 use anyhow::Result;
 use std::alloc::Global;
 use zarrs::{
-    Array, ArrayMetadata, ArrayMetadataOptions, ArrayMetadataV3, ArraySubset, MemoryStore,
-    MetadataConvertVersion,
+    Array, ArrayError, ArrayMetadata, ArrayMetadataOptions, ArrayMetadataV3, ArraySubset,
+    MemoryStore, MetadataConvertVersion,
 };
 
 /// An array that is made of the text of its document, which is then in its store.
@@ -27,8 +27,9 @@ pub fn read_region_at(
     region: &ArraySubset,
 ) -> Result<Vec<u8>> {
     let array = Array::open(alloc, storage, path)?;
-    let numbers: Vec<u8> = array.retrieve_array_subset(alloc, region)?;
-    Ok(numbers)
+    let numbers: Result<Vec<u8>, ArrayError> = array.retrieve_array_subset(alloc, region);
+    drop(array);
+    Ok(numbers?)
 }
 
 /// The metadata as compact text.
@@ -37,12 +38,21 @@ fn text_of(alloc: Global, metadata: &ArrayMetadata) -> Result<String> {
     Ok(document.to_string(alloc)?)
 }
 
-/// The V3 document of the array in the store, of whichever version its metadata is, as compact text.
-pub fn v3_text(alloc: Global, storage: MemoryStore, path: &str) -> Result<String> {
-    let array = Array::open(alloc, storage, path)?;
+/// The V3 document of the array, as compact text.
+fn text_in_v3(alloc: Global, array: &Array<MemoryStore>) -> Result<String> {
     let options = ArrayMetadataOptions::default().with_metadata_convert_version(
         MetadataConvertVersion::V3,
     );
     let metadata = array.metadata_opt(alloc, &options)?;
-    text_of(alloc, &metadata)
+    let text = text_of(alloc, &metadata);
+    drop(metadata);
+    text
+}
+
+/// The V3 document of the array in the store, of whichever version its metadata is, as compact text.
+pub fn v3_text(alloc: Global, storage: MemoryStore, path: &str) -> Result<String> {
+    let array = Array::open(alloc, storage, path)?;
+    let text = text_in_v3(alloc, &array);
+    drop(array);
+    text
 }

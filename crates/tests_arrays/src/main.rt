@@ -55,7 +55,7 @@ use std::rt::Files;
 use zarrs_script::run_script;
 
 /// The scripts, and the status that each ends with.
-const EXAMPLES: [(&str, u8); 28] = [
+const EXAMPLES: &[(&str, u8)] = &[
     ("first", 0),
     ("few_cells", 0),
     ("empty", 0),
@@ -109,7 +109,7 @@ fn run_example<R: Files + Alloc<A = Global> + Print>(rt: &R, name: &str, status:
 
 fn main(rt: HostRuntime) -> Result<()> {
     for (name, status) in EXAMPLES {
-        run_example(&rt, name, status)?;
+        run_example(&rt, name, *status)?;
     }
     Ok(())
 }

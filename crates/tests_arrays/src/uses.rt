@@ -5,6 +5,7 @@ use crate::courses::stored_and_read_twice;
 use crate::documents::{create_array, read_region_at, v3_text};
 use crate::encoded::read_while;
 use crate::made::holding;
+use anyhow::Result;
 use std::alloc::Global;
 use std::ops::Range;
 use std::process::Abort;
@@ -47,21 +48,6 @@ fn an_array_is_created_and_opened_again(rt: HostRuntime) {
     let alloc = rt.alloc();
     let storage = created(&rt, alloc).into_storage();
     must_read(&rt, alloc, storage, &[7, 7, 7, 7]);
-}
-
-#[test]
-fn values_are_stored_and_read_twice(rt: HostRuntime) {
-    let alloc = rt.alloc();
-    let mut array = created(&rt, alloc);
-    let row = region(&rt, alloc, &[1..2, 0..4]);
-    let read = stored_and_read_twice(alloc, &mut array, &row, &[1u8, 2, 3, 4]);
-    drop(row);
-    must_eq(
-        &rt,
-        read.expect(&rt, "no refusal").as_slice(),
-        &[1, 2, 3, 4],
-    );
-    drop(array);
 }
 
 /// The V2 document of an array of 6 texts, as zarr-python writes it, and the V3 document that it becomes.
@@ -108,7 +94,7 @@ fn must_read_while(
 
 /// The cells of the first chunk, if it is present.
 fn must_hold(rt: &impl Abort, alloc: Global, array: &Array<MemoryStore>, wanted: Option<&[u8]>) {
-    let held: Result<Option<Vec<u8>>, _> = array.retrieve_chunk_if_exists(alloc, &[0, 0]);
+    let held = array.retrieve_chunk_if_exists::<Vec<u8>>(alloc, &[0, 0]);
     must(rt, held.expect(rt, "no refusal").as_deref() == wanted);
 }
 
@@ -130,11 +116,22 @@ fn must_be_put_back(
     must_hold(rt, alloc, array, Some(&[5, 6, 7, 8]));
 }
 
+fn must_read_twice(
+    rt: &impl Abort,
+    alloc: Global,
+    array: &mut Array<MemoryStore>,
+    row: &ArraySubset,
+) {
+    let read = stored_and_read_twice(alloc, array, row, &[1u8, 2, 3, 4]);
+    must_eq(rt, read.expect(rt, "no refusal").as_slice(), &[1, 2, 3, 4]);
+}
+
 #[test]
-fn a_chunk_is_left_as_it_was(rt: HostRuntime) {
+fn a_chunk_is_left_as_it_was_and_values_are_read_twice(rt: HostRuntime) {
     let alloc = rt.alloc();
     let mut array = created(&rt, alloc);
     must_be_put_back(&rt, alloc, &mut array, &region(&rt, alloc, &[0..1, 0..4]));
+    must_read_twice(&rt, alloc, &mut array, &region(&rt, alloc, &[1..2, 0..4]));
     drop(array);
 }
 
@@ -144,31 +141,27 @@ const MEASURED: &[i16] = &[
     -1, -1, -1, 12, 0, 7, 31, -1,
 ];
 
-fn must_measure(rt: &impl Abort, alloc: Global, array: &mut Array<MemoryStore>) {
+/// The array has its unit and its names, and keeps what is measured.
+fn must_be_measured(rt: &impl Abort, alloc: Global, built: Result<Array<MemoryStore>>) {
+    let mut array = built.expect(rt, "no refusal");
+    must(rt, unit_of(&array) == Some("mm"));
+    must(rt, are_y_and_x(array.dimension_names()));
     let places = region(rt, alloc, &[1..2, 3..7]);
-    let measured = measure(alloc, array, &places, &[12, 0, 7, 31]);
+    let measured = measure(alloc, &mut array, &places, &[12, 0, 7, 31]);
     drop(places);
+    drop(array);
     let millimetres = measured.expect(rt, "no refusal");
     must_eq(rt, millimetres.len(), 64);
     must(rt, millimetres.starts_with(MEASURED));
 }
 
 #[test]
-fn an_array_is_built_and_measured(rt: HostRuntime) {
+fn an_array_is_built_and_measured_in_chunks_and_in_subchunks(rt: HostRuntime) {
     let alloc = rt.alloc();
-    let built = rainfall(alloc, MemoryStore::new(alloc), PATH);
-    let mut array = built.expect(&rt, "no refusal");
-    must(&rt, unit_of(&array) == Some("mm"));
-    must(&rt, are_y_and_x(array.dimension_names()));
-    must_measure(&rt, alloc, &mut array);
-    drop(array);
-}
-
-#[test]
-fn an_array_is_cut_into_subchunks_and_measured(rt: HostRuntime) {
-    let alloc = rt.alloc();
-    let built = rainfall_in_a_shard(alloc, MemoryStore::new(alloc), PATH);
-    let mut array = built.expect(&rt, "no refusal");
-    must_measure(&rt, alloc, &mut array);
-    drop(array);
+    must_be_measured(&rt, alloc, rainfall(alloc, MemoryStore::new(alloc), PATH));
+    must_be_measured(
+        &rt,
+        alloc,
+        rainfall_in_a_shard(alloc, MemoryStore::new(alloc), PATH),
+    );
 }

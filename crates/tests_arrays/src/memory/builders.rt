@@ -24,10 +24,10 @@ fn set_fields(alloc: Global, builder: &mut ArrayBuilder) {
 
 /// The array has what was set.
 fn must_be_set(rt: &impl Abort, array: Array<MemoryStore>) {
-    must_eq(rt, array.shape(), [9, 8].as_slice());
-    must_eq(rt, array.chunk_grid_shape(), [3, 2].as_slice());
+    must_eq(rt, array.shape(), &[9, 8]);
+    must_eq(rt, array.chunk_grid_shape(), &[3, 2]);
     must(rt, *array.data_type() == DataType::UInt8);
-    must_eq(rt, array.fill_value().as_bytes(), [7].as_slice());
+    must_eq(rt, array.fill_value().as_bytes(), &[7]);
     must(rt, are_y_and_x(array.dimension_names()));
     drop(array);
 }

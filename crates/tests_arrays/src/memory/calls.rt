@@ -57,7 +57,7 @@ fn is_front(cells: &[u8]) -> bool {
     let mut is_stored = true;
     for (found, stored) in cells.chunks(4).zip(FILLED.chunks(4)) {
         is_stored = is_stored && found == stored;
-        if !is_stored && found.iter().any(|cell| *cell != 9) {
+        if !is_stored && found != [9u8; 4].as_slice() {
             return false;
         }
     }

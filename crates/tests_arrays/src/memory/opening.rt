@@ -39,20 +39,24 @@ fn holding(rt: &impl Abort, alloc: Global) -> MemoryStore {
 
 type LentArray<'a> = Array<Lent<'a, MemoryStore>>;
 
-fn cells(rt: &impl Abort, alloc: Global, array: &LentArray<'_>) -> Vec<u8> {
-    match array.retrieve_array_subset(alloc, &[0..5]) {
-        Ok(cells) => cells,
-        Err(ArrayError::OutOfMemory) => {
-            let again = array.retrieve_array_subset(alloc, &[0..5]);
-            again.expect(rt, "no second refusal")
+/// The cells are read, or there was no memory for them.
+fn are_read(rt: &impl Abort, alloc: Global, array: &LentArray<'_>) -> bool {
+    let read: Result<Vec<u8>, ArrayError> = array.retrieve_array_subset(alloc, &[0..5]);
+    match read {
+        Ok(cells) => {
+            must_eq(rt, cells.as_slice(), &[1, 2, 7, 7, 3]);
+            true
         }
+        Err(ArrayError::OutOfMemory) => false,
         Err(_) => rt.panic("another refusal"),
     }
 }
 
 fn must_read(rt: &impl Abort, alloc: Global, array: LentArray<'_>) {
-    let cells = cells(rt, alloc, &array);
-    must_eq(rt, cells.as_slice(), [1, 2, 7, 7, 3].as_slice());
+    must(
+        rt,
+        are_read(rt, alloc, &array) || are_read(rt, alloc, &array),
+    );
     drop(array);
 }
 
