@@ -31,7 +31,7 @@ fn begins_with_plus(word: &[u8]) -> bool
     }
 }
 
-/// Returns the bits by two's complement of the number that the digits say behind a minus.
+/// Returns the bits by two's complement of the number that the digits say after a minus.
 fn negative(digits: &[u8]) -> Option<u64>
     ensures { result ≡ negative_in digits.now }
 {

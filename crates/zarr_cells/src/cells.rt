@@ -59,7 +59,7 @@ pub fn write_raw<W: Write>(
     Ok(())
 }
 
-/// Reads cells of one size that have so many bytes.
+/// Reads cells of one size that have this many bytes.
 ///
 /// # Errors
 /// What the reader says; out of memory.

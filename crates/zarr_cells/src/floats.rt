@@ -37,7 +37,7 @@ fn finite_bits(width: Width, word: &[u8]) -> Option<u64>
     }
 }
 
-/// Returns the bits that hexadecimal digits say behind `0x`, as many as the float needs.
+/// Returns the bits that hexadecimal digits say after `0x`, as many as the float needs.
 fn hex_bits(width: Width, name: &[u8]) -> Option<u64>
     ensures { result ≡ hex_in width name.now }
 {
@@ -56,7 +56,7 @@ fn hex_bits(width: Width, name: &[u8]) -> Option<u64>
     }
 }
 
-/// Returns the bits that a name says: `NaN`, `Infinity`, `-Infinity`, or hexadecimal digits behind `0x`.
+/// Returns the bits that a name says: `NaN`, `Infinity`, `-Infinity`, or hexadecimal digits after `0x`.
 fn name_bits(width: Width, name: &[u8]) -> Option<u64>
     ensures { result ≡ name_in width name.now }
 {
@@ -115,7 +115,7 @@ pub(crate) fn value_bits(width: Width, value: &Value) -> Option<u64> {
     }
 }
 
-/// Writes bits as hexadecimal digits behind `0x`, between quotes.
+/// Writes bits as hexadecimal digits after `0x`, between quotes.
 fn write_digits<W: Write>(out: &mut W, digits: &[u8]) -> io::Result<()>
     ensures { OnOk result (Appends (W.contents out.old) (W.contents out.new)
         (34 ∷ 48 ∷ 120 ∷ (digits.now ++ 34 ∷ []))) }

@@ -48,7 +48,7 @@ fn write_opening<W: Write>(out: &mut W, is_first: bool) -> io::Result<()>
     out.write_all(text.as_bytes())
 }
 
-/// Writes what stands behind a cell.
+/// Writes what stands after a cell.
 fn write_closing<W: Write>(out: &mut W, is_last: bool) -> io::Result<()>
     ensures { OnOk result (Appends (W.contents out.old) (W.contents out.new) (closed is_last)) }
 {
@@ -67,10 +67,10 @@ fn write_cell<W: Write>(out: &mut W, rows: &Rows, column: u64, cell: &[u8]) -> i
     write_closing(out, rows.is_last(column))
 }
 
-/// Writes cells from the column on: a list for each row, on a line of its own. Returns the column behind them.
+/// Writes cells from the column on: a list for each row, on a line of its own. Returns the column after them.
 ///
 /// # Errors
-/// `InvalidData` for cells of no byte or more than 8, and for bytes behind the last whole cell; what the writer says.
+/// `InvalidData` for cells of no byte or more than 8, and for bytes after the last whole cell; what the writer says.
 pub fn write_cells<W: Write>(out: &mut W, rows: &Rows, column: u64, bytes: &[u8]) -> io::Result<u64>
     ensures written { IfOk result (λ after. WritesCells rows.now.form rows.now.size rows.now.width
         column after bytes.now (W.contents out.old) (W.contents out.new)) }
@@ -118,7 +118,7 @@ fn unclosed(text: &[u8], is_last: bool) -> Option<&[u8]>
     }
 }
 
-/// Returns what stands behind the bracket, if the cell is the first one of its row.
+/// Returns what stands after the bracket, if the cell is the first one of its row.
 fn unopened(text: &[u8], is_first: bool) -> Option<&[u8]>
     ensures { MatchOption result (unopened is_first text.now ≡ None)
         (λ rest. unopened is_first text.now ≡ Some rest.now) }
@@ -198,8 +198,8 @@ fn read_cell<R: BufRead>(
     Ok(())
 }
 
-/// Adds so many cells from the column on that the input begins with: a list for each row, on a line of its own. Returns
-/// the column behind them. What the bytes had before stays, also if it is refused.
+/// Adds this many cells from the column on that the input begins with: a list for each row, on a line of its own.
+/// Returns the column after them. What the bytes had before stays, also if it is refused.
 ///
 /// # Errors
 /// E5 for what is no cell; fewer cells; what the reader says; out of memory.

@@ -38,7 +38,7 @@ fn order(form: Option<Form>, size: usize) -> u8
     }
 }
 
-/// Returns the extents, each with the comma behind it.
+/// Returns the extents, each with the comma after it.
 #[tactic(auto, using(crate::proofs::ListLemmas::extents_push))]
 fn extents(alloc: Global, shape: &[u64]) -> Result<Vec<u8>, AllocError>
     ensures { IfOk result (λ text. text.items ≡ extents shape.now) }
@@ -151,7 +151,7 @@ fn read_length<R: Read>(input: &mut R) -> io::Result<u16>
     Ok(length_in(bytes.as_slice()))
 }
 
-/// Reads so many bytes.
+/// Reads this many bytes.
 fn read_bytes<R: Read>(alloc: Global, input: &mut R, size: usize) -> Result<Vec<u8>, CellsError>
     ensures { IfOk result (λ bytes. (length bytes.items ≡ size)
         × Consumes (R.remaining input.old) (R.remaining input.new) bytes.items) }

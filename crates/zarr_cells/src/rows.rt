@@ -47,8 +47,8 @@ pub fn with_rows(
     Ok(ArraySubset::new_with_start_shape(start, shape)?)
 }
 
-/// Cuts the region along the axis, before which each extent is 1, after so many rows. The positions of the one part, and
-/// then those of the other, are those of the region.
+/// Cuts the region along the axis, before which each extent is 1, after this many rows. The positions of the one part,
+/// and then those of the other, are those of the region.
 ///
 /// # Errors
 /// Out of memory.

@@ -16,8 +16,8 @@ fn write_text<W: Write>(alloc: Global, out: &mut W, text: &[u8]) -> Result<(), C
     Ok(())
 }
 
-/// Writes texts from the column on, in rows of so many: a list for each row, on a line of its own. Returns the column
-/// behind them.
+/// Writes texts from the column on, in rows of `width`: a list for each row, on a line of its own. Returns the column
+/// after them.
 ///
 /// # Errors
 /// A cell is no text; what the writer says; out of memory.
@@ -82,7 +82,7 @@ fn is_closed(token: &[u8]) -> bool {
     text.iter().rev().take_while(|byte| **byte == b'\\').count() % 2 == 0
 }
 
-/// Reads what stands behind a quote, up to the quote that closes it.
+/// Reads what stands after a quote, up to the quote that closes it.
 fn read_quoted<R: BufRead>(input: &mut R, token: &mut Vec<u8>) -> Result<(), CellsError> {
     token.clear();
     token.push(b'"')?;
@@ -94,7 +94,7 @@ fn read_quoted<R: BufRead>(input: &mut R, token: &mut Vec<u8>) -> Result<(), Cel
     Ok(())
 }
 
-/// Adds so many texts from the column on, in rows of so many, that the input begins with. Returns the column behind them.
+/// Adds this many texts from the column on, in rows of `width`, that the input begins with. Returns the column after them.
 ///
 /// # Errors
 /// E5 for what is no text; fewer cells; what the reader says; out of memory.

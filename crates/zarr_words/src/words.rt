@@ -24,7 +24,7 @@ fn refused(alloc: Global, about: &str, word: &str) -> WordsError {
     }
 }
 
-/// Returns what stands behind the `--` of an option, and its value if one stands behind `=`.
+/// Returns what stands after the `--` of an option, and its value if one stands after `=`.
 fn option_of(word: &str) -> Option<(&str, Option<&str>)> {
     let option = word.strip_prefix("--")?;
     match option.split_once('=') {

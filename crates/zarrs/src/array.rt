@@ -162,7 +162,7 @@ impl<TStorage> Array<TStorage> {
         }
     }
 
-    /// Returns the attributes of the user.
+    /// Returns the user attributes.
     pub fn attributes(&self) -> &Map<String, Value>
         ensures { members_view result.now.entries ≡ attributes_of (metadata_of_array self.now) }
     {

@@ -78,7 +78,7 @@ pub trait IntoFillValue {
     // Holds of a value and each fill value that it may become.
     ghost gives: { Self → ArrayBuilderFillValue → Type 0 };
 
-    /// The fill value.
+    /// Returns the fill value.
     ///
     /// # Errors
     /// `AllocError`: out of memory.

@@ -166,8 +166,8 @@ pub fn erasures_of_metadata(
     }
 }
 
-/// Returns the refusal of a call of a store on metadata, by what the store answered. A store reads no document, so that
-/// none is named: of an `InvalidMetadata` the reason is kept, as `Other`.
+/// Returns the refusal of a call of a store on metadata, by what the store answered. A store reads no document, so none
+/// is named: of an `InvalidMetadata` the reason is kept, as `Other`.
 pub fn store_refusal(error: StorageError) -> StorageError
     ensures is { result ≡ without_document error }
     ensures named { NamesNoDocument result }

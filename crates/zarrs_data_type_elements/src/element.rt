@@ -1,4 +1,4 @@
-//! Values of Rust that stand for cells.
+//! Rust values that stand for cells.
 ghost use Rattle.std.specs.Prelude.{◌≡◌, Bool, true, false, map, Some, IfOk, IfErr, OnOk};
 ghost use Rattle.std.specs.Option.{option_map_or};
 ghost use Rattle.zarrs_data_type_bytes.specs.ArrayData.{data_of};
@@ -20,7 +20,7 @@ mod strings;
 
 use options::{flags, lent, present_values, spread_values, under_flags};
 
-/// A value of Rust that stands for a cell.
+/// A Rust value that stands for a cell.
 pub trait Element: Drop {
     // The cell.
     ghost cell: { Self → Cell };
@@ -110,7 +110,7 @@ pub trait Element: Drop {
     }
 }
 
-/// A value of Rust that is read from a cell.
+/// A Rust value that is read from a cell.
 pub trait ElementOwned: Element {
     /// The values of the cells of the data.
     ///

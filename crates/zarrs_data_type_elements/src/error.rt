@@ -6,7 +6,7 @@ ghost use Rattle.zarrs_data_type_elements.specs.declared.error.ElementError.TheV
 use std::alloc::{AllocError, AllocFailed};
 use thiserror::Error;
 
-/// A list of values of Rust that is not one of cells of the data type.
+/// Why a list of Rust values is refused.
 #[derive(Debug, Drop, Error, PartialEq, Eq)]
 pub enum ElementError {
     /// The element type is not the data type's.

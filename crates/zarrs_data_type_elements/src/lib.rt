@@ -1,4 +1,4 @@
-//! Values of Rust that stand for cells: whole numbers, flags, texts, byte strings, and options of these.
+//! Rust values that stand for cells: whole numbers, flags, texts, byte strings, and options of these.
 //!
 //! The layers above use `Element`, whose functions make array bytes of a list of values, and `ElementOwned`, whose
 //! functions make values of array bytes. `ElementError` says that the values are not those of the data type.

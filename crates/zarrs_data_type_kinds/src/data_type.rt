@@ -30,7 +30,7 @@ pub enum DataType {
     UInt32,
     /// An unsigned number of 64 bits, little endian in memory.
     UInt64,
-    /// So many bytes, which are kept as they are.
+    /// This many bytes, kept as they are.
     Raw(NonZeroUsize),
     /// A text in UTF-8.
     String,

@@ -162,8 +162,9 @@ impl DataType {
     /// `optional` and `variable_length_bytes`.
     ///
     /// # Errors
-    /// `Other` if the metadata says none of them: for another name, a raw type whose bits are no multiple of 8 or are
-    /// more than 524,288, and a configuration with any other member. `OutOfMemory` may come at any time.
+    /// `Other` if the metadata says none of them: for another name, a raw type whose bits are not written as a plain
+    /// decimal multiple of 8 from 8 to 524,288, and a configuration with any other member. `OutOfMemory` may come at any
+    /// time.
     pub fn from_metadata(
         alloc: Global,
         metadata: &MetadataV3,

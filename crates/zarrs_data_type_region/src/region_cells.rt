@@ -95,7 +95,7 @@ impl RegionCells {
         }
     }
 
-    /// The same, with a part that is given away. It is not copied if both boxes are one.
+    /// The same, with a part that is given away. If its type is fixed and both boxes are the same, it is not copied.
     ///
     /// # Errors
     /// `AllocError`: out of memory.

@@ -21,7 +21,7 @@ use zarrs_subset::{
     ArraySubset, ArraySubsetTraits, Corner, copy_box, element_count, ravel_indices,
 };
 
-/// What a fill copies at a time grows to this length, so that it stays in the nearest cache while it is copied.
+/// A fill doubles what it copies at a time until that is at least this long, so that it stays in the nearest cache.
 const BLOCK_LEN: usize = 16384;
 
 /// What a caller lent for a target that was refused: each byte and each mask is what it was.
@@ -67,7 +67,7 @@ pub struct ArrayBytesDecodeIntoTarget<'a, 'm, 'r> {
 impl<'a, 'm, 'r> ArrayBytesDecodeIntoTarget<'a, 'm, 'r> {
     ghost use Rattle.zarrs_data_type_region.specs.States.{IsOverBytes, IsOverMasks};
 
-    /// Whether these are the parts of a target.
+    /// Checks that these are the parts of a target.
     ///
     /// # Errors
     /// Bytes or masks of another length than the parent asks, a parent of more positions than a `u64` counts, or a box
@@ -536,7 +536,7 @@ fn leading_ones(shape: &[u64]) -> usize
     count
 }
 
-/// The same, for a box that is one row.
+/// Writes the piece to each position of a box that is one row.
 fn fill_row(shape: &[u64], start: &[u64], extents: &[u64], target: &mut [u8], piece: &[u8])
     requires fits { BoxFits start.now extents.now shape.now }
     requires counted { position_count shape.now < 2 ^ 64 }
@@ -551,8 +551,8 @@ fn fill_row(shape: &[u64], start: &[u64], extents: &[u64], target: &mut [u8], pi
     fill_run(&mut target[from..from + count * piece.len()], piece, count);
 }
 
-/// The same, for a box with a row for each index of its first dimension. The first row is filled, and the others are
-/// copies of it.
+/// Writes the piece to each position of a box with a row for each index of its first dimension. The first row is filled,
+/// and the others are copies of it.
 fn fill_plane(shape: &[u64], start: &[u64], extents: &[u64], target: &mut [u8], piece: &[u8])
     requires fits { BoxFits start.now extents.now shape.now }
     requires counted { position_count shape.now < 2 ^ 64 }

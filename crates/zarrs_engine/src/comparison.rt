@@ -16,8 +16,8 @@ use zarrs_keys::ChunkKeyEncodingTraits;
 use zarrs_storage::ReadableStorageTraits;
 use zarrs_subset::ArraySubset;
 
-/// Returns whether of each chunk with indices in the range the same bytes are stored in both arrays, or none in both.
-/// No chunk is decoded. The chunks are asked in row-major order, up to the first one that differs; an empty range asks
+/// Returns whether, for each chunk with indices in the range, both arrays store the same bytes or both store none. No
+/// chunk is decoded. The chunks are asked in row-major order, up to the first one that differs; an empty range asks
 /// nothing. Of two canonical arrays of one grid, data type, fill value and chain it is whether they have equal cells
 /// over the chunks.
 ///
@@ -64,7 +64,7 @@ pub fn chunks_equal<
     }
 }
 
-/// Returns whether of the chunk with these indices the same bytes are stored in both arrays, or none in both.
+/// Returns whether both arrays store the same bytes for the chunk with these indices, or both store none.
 ///
 /// # Errors
 /// E7 if one of the stores refuses the key. E9 may come at any time.

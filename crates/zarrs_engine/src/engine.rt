@@ -39,8 +39,8 @@ impl<S, G: ChunkGridTraits, K: ChunkKeyEncodingTraits, C: ChainTraits> Engine<S,
     ghost use Rattle.zarrs_engine.specs.Engine.{cell_type_of, chain_of, data_type_of, fill_value_of, HasParts};
     ghost use Rattle.zarrs_engine.specs.Lending.{LendsStore};
 
-    /// An engine over the store, for the array at the path that is cut by the grid, whose chunks lie at the keys of the
-    /// encoding and are turned into bytes by the chain. The bytes of the fill value are a value of the data type.
+    /// Makes an engine over the store, for the array at the path that is cut by the grid, whose chunks lie at the keys of
+    /// the encoding and are turned into bytes by the chain. The bytes of the fill value are a value of the data type.
     pub fn new(
         storage: S,
         path: NodePath,

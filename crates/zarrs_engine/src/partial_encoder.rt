@@ -121,7 +121,7 @@ impl<
         Ok(())
     }
 
-    /// Returns whether the parts of the chunk are written by themselves: the chain and the store can.
+    /// Returns whether the chain and the store can write parts by themselves.
     pub fn supports_partial_encode(&self) -> bool
         ensures { result ≡ ((layout_of (engine_of self.now)).chain.encodes_partly
             && (store_of S.state (engine_of self.now)).sets_parts) }

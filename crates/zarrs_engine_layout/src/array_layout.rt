@@ -125,7 +125,7 @@ impl<G: ChunkGridTraits, K: ChunkKeyEncodingTraits, C: ChainTraits> ArrayLayout<
     /// empty chunks are not kept and each cell is the fill value's.
     ///
     /// # Errors
-    /// In this order: E4 if the chain does not take the chunk; E8 if the bytes pass a size. E9 may come at any time.
+    /// In this order: E4 if the chain does not take the chunk; E8 if an encoded size overflows. E9 may come at any time.
     #[inline(always)]
     pub fn value_of(
         &self,
@@ -178,7 +178,7 @@ impl<G: ChunkGridTraits, K: ChunkKeyEncodingTraits, C: ChainTraits> ArrayLayout<
         Ok(Some(encoded))
     }
 
-    /// Refuses data that is not so many cells, each a value of the data type.
+    /// Refuses data that is not this many cells, each a value of the data type.
     ///
     /// # Errors
     /// E4 for such data.

@@ -164,7 +164,7 @@ fn last_index(alloc: Global, chunks: &ArraySubset) -> Result<Vec<u64>, AllocErro
     one_less(alloc, &ends)
 }
 
-/// One less than each of these numbers, and 0 of a 0.
+/// Returns one less than each of these numbers, and 0 for a 0.
 fn one_less(alloc: Global, numbers: &[u64]) -> Result<Vec<u64>, AllocError>
     ensures { IfOk result (λ made. made.items ≡ map (λ number. number - 1) numbers.now) }
 {

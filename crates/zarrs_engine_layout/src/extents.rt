@@ -1,4 +1,4 @@
-//! The extents of chunks, for calls that need no corner.
+//! The extents of chunks, for calls that need no origin.
 ghost use Rattle.std.specs.Prelude.{◌≡◌};
 ghost use Rattle.zarrs_subset.specs.Boxes.{position_count};
 

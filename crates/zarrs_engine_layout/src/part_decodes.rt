@@ -23,10 +23,10 @@ impl<G: ChunkGridTraits, K: ChunkKeyEncodingTraits, C: ChainTraits> ArrayLayout<
     ghost use Rattle.zarrs_engine_layout.specs.Steps.{RefusesPartBytes};
 
     /// Returns the cells of a part of a chunk of this shape, whose bytes are those of the source. The part is seen from
-    /// the corner of the chunk. No other bytes are read than those that the part needs.
+    /// the origin of the chunk. No other bytes are read than those that the part needs.
     ///
     /// # Errors
-    /// One of these: E4 if the bytes do not decode, though a part of them may, unless it is the whole chunk; E7 if the
+    /// One of these: E4 if the bytes do not decode, though a part smaller than the chunk may still be read; E7 if the
     /// source refuses; E8 if what the chain decodes whole for the part, the chunk or a subchunk that the part meets, has
     /// more bytes than a `usize` counts, or so has its fill where its bytes leave out cells. E9 may come at any time.
     pub fn decode_part<B: ByteSource>(
@@ -66,7 +66,7 @@ impl<G: ChunkGridTraits, K: ChunkKeyEncodingTraits, C: ChainTraits> ArrayLayout<
     }
 
     /// Decodes a part of a chunk of this shape, whose bytes are those of the source, into the target's box, which has the
-    /// part's shape. The part is seen from the corner of the chunk. No other bytes are read than those that the part needs.
+    /// part's shape. The part is seen from the origin of the chunk. No other bytes are read than those that the part needs.
     /// Every byte outside the target's box stays; after a refusal the inside is open.
     ///
     /// # Errors

@@ -115,7 +115,7 @@ impl<G: ChunkGridTraits, K: ChunkKeyEncodingTraits, C: ChainTraits> ArrayLayout<
         }
     }
 
-    /// Returns the cells of the region if each is the fill value's.
+    /// Returns as many fill values as the region has positions.
     ///
     /// # Errors
     /// E8 if the cells, or that many fill values, have more bytes than a `usize` counts. E9 may come at any time.
@@ -134,7 +134,7 @@ impl<G: ChunkGridTraits, K: ChunkKeyEncodingTraits, C: ChainTraits> ArrayLayout<
         }
     }
 
-    /// Returns so many fill values.
+    /// Returns this many fill values.
     ///
     /// # Errors
     /// E8 if they have more bytes than a `usize` counts. E9 may come at any time.
@@ -238,7 +238,7 @@ impl<G: ChunkGridTraits, K: ChunkKeyEncodingTraits, C: ChainTraits> ArrayLayout<
         Err(ArrayError::CodecError(CodecError::DoesNotFit(misfit)))
     }
 
-    /// Why this data is not the expected number of cells, each a value of the data type.
+    /// Returns why this data is not the expected number of cells, each a value of the data type.
     pub(crate) fn misfit_of(&self, data: &ArrayBytes<'_>, expected: u64) -> Misfit {
         let got = self.count_of(data);
         if got != expected && data.validate(&self.cell_type.data_type, got) {

@@ -35,14 +35,14 @@ pub fn covers_chunk<G: ChunkGridTraits>(
 /// What a region shares with one chunk after another. Its boxes are made once for all of them.
 #[derive(Debug, Drop)]
 pub struct ChunkShare {
-    /// The positions as they are seen from the corner of the chunk.
+    /// The positions as they are seen from the origin of the chunk.
     pub part: ArraySubset,
     /// The same, as they lie in a box of the region's shape: the region's first position lies at its corner.
     pub own: ArraySubset,
 }
 
 impl ChunkShare {
-    /// What is shared with no chunk yet.
+    /// Makes the share of no chunk yet.
     pub fn new(alloc: Global) -> ChunkShare {
         ChunkShare {
             part: ArraySubset::new(Vec::new(alloc), Vec::new(alloc)),
@@ -112,7 +112,7 @@ impl ChunkShare {
     }
 }
 
-/// Returns the positions that a region shares with the chunk with these indices, seen from the corner of the chunk.
+/// Returns the positions that a region shares with the chunk with these indices, seen from the origin of the chunk.
 ///
 /// # Errors
 /// `AllocError`: out of memory.

@@ -80,7 +80,7 @@ impl CellType {
         }
     }
 
-    /// The greatest number that is a cell of the type.
+    /// Returns the greatest number that is a cell of the type.
     pub fn greatest(self) -> u64
         ensures { result ≡ greatest self }
     {

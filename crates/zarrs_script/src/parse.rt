@@ -155,7 +155,7 @@ fn next_word(words: Option<&[u8]>) -> Result<(&[u8], Option<&[u8]>), ParseError>
     }
 }
 
-/// The only word that is left.
+/// Returns the only word that is left.
 ///
 /// # Errors
 /// `NotACommand` if there is no word, or more than one.

@@ -237,7 +237,7 @@ fn put_key(
     Ok(())
 }
 
-/// Prints the keys that are present in ascending order, and their bytes, or that there is none.
+/// Prints the keys that are present in ascending order, and their bytes, or that there are none.
 ///
 /// # Errors
 /// `Stopped` if the output fails, or out of memory.

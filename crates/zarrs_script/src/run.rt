@@ -76,7 +76,7 @@ fn make_call<W: Write>(
 }
 
 /// Prints the key of each chunk that has a cell other than fill, in ascending order, and the bytes of its cells, or that
-/// there is none. These are the keys of the store and their values.
+/// there are none. These are the keys of the store and their values.
 fn put_content<W: Write>(
     alloc: Global,
     writer: &mut W,

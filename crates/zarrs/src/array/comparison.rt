@@ -12,10 +12,10 @@ impl<TStorage: ReadableStorageTraits> Array<TStorage> {
     ghost use Rattle.zarrs.specs.Arrays.{layout_of_array, store_of_array};
     ghost use Rattle.zarrs.specs.Outcomes.{ComparesChunks};
 
-    /// Returns whether of each chunk with indices in the range the same bytes are stored in both arrays, or none in
-    /// both. No chunk is decoded. The chunks are asked in row-major order, up to the first one that differs; an empty
-    /// range asks nothing. Of two canonical arrays of one grid, data type, fill value and chain it is whether they have
-    /// equal cells over the chunks.
+    /// Returns whether, for each chunk with indices in the range, both arrays store the same bytes or both store none.
+    /// No chunk is decoded. The chunks are asked in row-major order, up to the first one that differs; an empty range
+    /// asks nothing. Of two canonical arrays of one grid, data type, fill value and chain it is whether they have equal
+    /// cells over the chunks.
     ///
     /// # Errors
     /// E8 for more chunks than a `u64` counts; E7 if one of the stores refuses the key of one of them. E9 may come at

@@ -29,7 +29,7 @@ impl<TStorage> Array<TStorage> {
     ghost use Rattle.zarrs.specs.Arrays.{metadata_of_array};
     ghost use Rattle.zarrs.specs.Lending.{LendsAttributes};
 
-    /// Lends the attributes of the user, for a caller that changes them. The store is not asked.
+    /// Lends the user attributes, for a caller that changes them. The store is not asked.
     pub fn attributes_mut(&mut self) -> &mut Map<String, Value>
         ensures* writes_back { sem 𝓛 (LendsAttributes TStorage.row self.entry result) }
         ensures value { members_view result.now.entries

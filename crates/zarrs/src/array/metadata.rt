@@ -43,7 +43,7 @@ impl<TStorage: WritableStorageTraits> Array<TStorage> {
     ///
     /// # Errors
     /// If the store refuses, and `OutOfMemory`; no `InvalidMetadata`. No value is changed then, except that the attributes
-    /// of a V2 array may be stored. Memory is short before the first call of the store, or it is what a call answered.
+    /// of a V2 array may be stored. `OutOfMemory` comes before the first call of the store, or is what a call answered.
     pub fn store_metadata_opt(
         &mut self,
         alloc: Global,
@@ -76,8 +76,8 @@ impl<TStorage: WritableStorageTraits> Array<TStorage> {
     /// `.zarray` and `.zattrs` for V2, all three in this order, or by default those of the array's own version.
     ///
     /// # Errors
-    /// If the store refuses, and `OutOfMemory`; no `InvalidMetadata`. A front of the keys is erased then. Memory is short
-    /// before the first call of the store, or it is what a call answered.
+    /// If the store refuses, and `OutOfMemory`; no `InvalidMetadata`. A front of the keys is erased then. `OutOfMemory`
+    /// comes before the first call of the store, or is what a call answered.
     pub fn erase_metadata_opt(
         &mut self,
         alloc: Global,
@@ -151,7 +151,7 @@ impl<TStorage> Array<TStorage> {
             (path_of_array self.now) (metadata_of_array self.now) (map put_view puts.items)) }
         ensures accepted { IsOkUnless result StorageError.OutOfMemory }
     {
-        // The metadata of an array has a V3 document, so that only memory can run out.
+        // The metadata of an array has a V3 document, so only memory can run out.
         let Ok(metadata) = self.metadata_opt(alloc, options) else {
             return Err(StorageError::OutOfMemory);
         };

@@ -108,7 +108,7 @@ impl<TStorage: WritableStorageTraits> Array<TStorage> {
         Ok(())
     }
 
-    /// Returns whether the parts of chunks are written by themselves: the chain and the store can.
+    /// Returns whether the chain and the store can write parts by themselves.
     fn encodes_partly(&self) -> bool
         ensures { result ≡ ((layout_of_array self.now).chain.encodes_partly
             && (store_of_array TStorage.state self.now).sets_parts) }
@@ -135,9 +135,9 @@ impl<TStorage: WritableStorageTraits> ArrayPartialEncoder<'_, TStorage> {
     /// # Errors
     /// In this order: E2 for a part of another number of dimensions, or that passes the chunk; E8 for a part that is the
     /// whole chunk and has more bytes than a `usize` counts; E4 for data that is not one cell for each position, each a
-    /// value of the data type. Then E8 for such a chunk; E7 if the store refuses its key; E4 if the chain does not take it,
-    /// or its bytes do not decode, or E8 if a size is too large; E7 if the store refuses the write. E9 may come at any
-    /// time. Nothing is changed then.
+    /// value of the data type. Then, if the chunk is stored whole, E8 for such a chunk; E7 if the store refuses its key; E4
+    /// if the chain does not take it, or its bytes do not decode, or E8 if a size is too large; E7 if the store refuses the
+    /// write. E9 may come at any time. Nothing is changed then.
     pub fn partial_encode<R: ArraySubsetTraits>(
         &mut self,
         alloc: Global,
@@ -172,7 +172,7 @@ impl<TStorage: WritableStorageTraits> ArrayPartialEncoder<'_, TStorage> {
         self.array.erase_encoded(alloc, &self.chunk_indices)
     }
 
-    /// Returns whether the parts of the chunk are written by themselves: the chain and the store can.
+    /// Returns whether the chain and the store can write parts by themselves.
     pub fn supports_partial_encode(&self) -> bool
         ensures { result ≡ ((layout_of_array (array_of_encoder self.now)).chain.encodes_partly
             && (store_of_array TStorage.state (array_of_encoder self.now)).sets_parts) }

@@ -121,7 +121,7 @@ impl<TStorage: WritableStorageTraits> Array<TStorage> {
     /// In this order: E5 for values that are not those of the data type; E3 for indices without a chunk; E8 for a chunk
     /// of more bytes than a `usize` counts; E4 for data
     /// that is not one cell for each position, each a value of the data type, or that the chain does not take; E8 if
-    /// the bytes pass a size; E7 if the store refuses. E9 may come at any time. Nothing is changed then.
+    /// an encoded size overflows; E7 if the store refuses. E9 may come at any time. Nothing is changed then.
     pub fn store_chunk<'a, D: IntoArrayBytes<'a>>(
         &mut self,
         alloc: Global,
@@ -162,7 +162,7 @@ impl<TStorage: WritableStorageTraits> Array<TStorage> {
     /// range of one chunk the errors of `store_chunk`; E3
     /// for a first index without a chunk, then for such a last one; E4 for data that is not one cell for each position,
     /// each a value of the data type. Then, at one of the chunks: E8 for a chunk of more bytes than a `usize` counts;
-    /// E4 if the chain does not take it; E8 if its bytes pass a size; E7 if the store refuses. E9 may come at any time.
+    /// E4 if the chain does not take it; E8 if an encoded size overflows; E7 if the store refuses. E9 may come at any time.
     /// The chunks before that one are stored then, and no later one.
     pub fn store_chunks<'a, D: IntoArrayBytes<'a>, R: ArraySubsetTraits>(
         &mut self,
@@ -212,7 +212,7 @@ impl<TStorage: WritableStorageTraits> Array<TStorage> {
     /// each position, each a value of the data type. Then E8 for such a chunk; of a chunk that is read, E7 if the store
     /// refuses its key, and E4 if its bytes do not decode, or E8 if a chunk of fill has more bytes than a `usize` counts,
     /// which is needed where the chunk is absent or its bytes leave out cells; E4 if the chain does not take it; E8 if
-    /// its bytes pass a size; E7 if the store refuses the write. E9 may come at any time. Nothing is changed then.
+    /// an encoded size overflows; E7 if the store refuses the write. E9 may come at any time. Nothing is changed then.
     pub fn store_chunk_subset<'a, D: IntoArrayBytes<'a>, R: ArraySubsetTraits>(
         &mut self,
         alloc: Global,
@@ -234,9 +234,9 @@ impl<TStorage: WritableStorageTraits> Array<TStorage> {
         )
     }
 
-    /// Does what `store_chunk_subset` does, under these options. If they write parts by themselves, and the chain and the
-    /// store can, a part that is not the whole chunk is: then of the chunk only what that needs is read, and nothing is said
-    /// of the bytes that are stored.
+    /// Does what `store_chunk_subset` does, under these options. If they ask for it, and the chain and the store can, a
+    /// part that is not the whole chunk is written by itself: only what that needs of the chunk is decoded, and its key
+    /// holds what a partial encode makes of what stood there.
     ///
     /// # Errors
     /// Those of `store_chunk_subset`.
@@ -274,8 +274,8 @@ impl<TStorage: WritableStorageTraits> Array<TStorage> {
     }
 
     /// Stores the cells, in row-major order, over the region, one chunk after another in row-major order, each by one
-    /// writing call of the store. A chunk of which the region covers a part alone is read first; cells of it outside
-    /// the region stay. An empty region asks nothing of the store.
+    /// writing call of the store. A chunk that the region covers only in part is read first; its cells outside the region
+    /// stay. An empty region asks nothing of the store.
     ///
     /// # Errors
     /// In this order: E1 for another number of dimensions, or a position that no chunk covers; E5 for values that are
@@ -283,7 +283,7 @@ impl<TStorage: WritableStorageTraits> Array<TStorage> {
     /// data that is not one cell for each position, each a value of the data type. Then, at one of the chunks: E8 for a
     /// chunk of more bytes than a `usize` counts; of a chunk that is read, E7 if the store refuses its key, and E4 if
     /// its bytes do not decode, or E8 if a chunk of fill has more bytes than that, which is needed where the chunk is
-    /// absent or its bytes leave out cells; E4 if the chain does not take it; E8 if its bytes pass a size; E7 if the
+    /// absent or its bytes leave out cells; E4 if the chain does not take it; E8 if an encoded size overflows; E7 if the
     /// store refuses the write. E9 may come at any time. The chunks before that one are stored then, and no later one.
     pub fn store_array_subset<'a, D: IntoArrayBytes<'a>, R: ArraySubsetTraits>(
         &mut self,
@@ -298,9 +298,9 @@ impl<TStorage: WritableStorageTraits> Array<TStorage> {
         self.store_array_subset_opt(alloc, array_subset, subset_data, &CodecOptions::default())
     }
 
-    /// Does what `store_array_subset` does, under these options. If they write parts by themselves, and the chain and the
-    /// store can, the part of a chunk that the region does not cover is: then of the chunk only what that needs is read, and
-    /// nothing is said of the bytes that are stored.
+    /// Does what `store_array_subset` does, under these options. If they ask for it, and the chain and the store can, a
+    /// chunk that the region covers only in part takes its part by itself: only what that needs of it is decoded, and its
+    /// key holds what a partial encode makes of what stood there.
     ///
     /// # Errors
     /// Those of `store_array_subset`.

@@ -26,7 +26,7 @@ impl ArrayBuilder {
 
     /// Returns a builder of an array with the shape, the chunk grid, the data type, the fill value, the codecs, the
     /// chunk keys, the attributes and the names of dimensions of this one, and of V3 the additional fields, and with the
-    /// default options. The fill value is metadata, so that a data type that is set later reads it. Subchunks of the
+    /// default options. The fill value is metadata, so a data type that is set later reads it. Subchunks of the
     /// array are in its codecs, and not set apart from them.
     ///
     /// # Errors

@@ -145,7 +145,7 @@ impl ArrayBuilder {
         self
     }
 
-    /// Sets the codecs that make bytes of bytes: there is none.
+    /// Sets the codecs that make bytes of bytes: there are none.
     pub fn bytes_to_bytes_codecs(&mut self, _codecs: BytesToBytesCodecs) -> &mut Self
         ensures same_loan { result.ghost_name ≡ self.entry.ghost_name }
         ensures kept { builder_view result.now ≡ builder_view self.old }
@@ -188,7 +188,7 @@ impl ArrayBuilder {
         self
     }
 
-    /// Sets the attributes of the user.
+    /// Sets the user attributes.
     pub fn attributes(&mut self, attributes: Map<String, Value>) -> &mut Self
         ensures same_loan { result.ghost_name ≡ self.entry.ghost_name }
         ensures set { builder_view result.now ≡ record (builder_view self.old) {
@@ -199,7 +199,7 @@ impl ArrayBuilder {
         self
     }
 
-    /// Lends the attributes of the user, for a caller that changes them.
+    /// Lends the user attributes, for a caller that changes them.
     pub fn attributes_mut(&mut self) -> &mut Map<String, Value>
         ensures* writes_back { sem 𝓛 (LendsBuilderAttributes self.entry result) }
         ensures value { members_view result.now.entries ≡ (builder_view self.old).attributes }
@@ -243,7 +243,7 @@ impl ArrayBuilder {
         self
     }
 
-    /// Sets the storage transformers: there is none.
+    /// Sets the storage transformers: there are none.
     pub fn storage_transformers(&mut self, _transformers: StorageTransformerChain) -> &mut Self
         ensures same_loan { result.ghost_name ≡ self.entry.ghost_name }
         ensures kept { builder_view result.now ≡ builder_view self.old }

@@ -86,7 +86,7 @@ pub(super) fn under_flags(
         (λ ds. cells (optional (kind inner.now)) (data_of made)
         ≡ Some (spread_cells mask.items ds))) }
 {
-    // Data of more bytes than a `u64` counts is in no memory.
+    // More bytes than a `usize` counts fit in no memory.
     if mask.len().checked_mul(inner.cell_size()).is_none() {
         return Err(AllocError);
     }

@@ -191,8 +191,8 @@ impl<
         Ok(())
     }
 
-    /// The same, of a chunk of which the region covers a part alone. No other bytes of the chunk are read than those that
-    /// the part needs.
+    /// The same, of a chunk that the region covers only in part. No other bytes of the chunk are read than those that the
+    /// part needs.
     #[tactic(auto, using(zarrs_data_type_region::proofs::Kept::keeps_itself))]
     fn read_part_into(
         &self,

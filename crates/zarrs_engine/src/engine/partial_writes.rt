@@ -43,7 +43,7 @@ impl<
     ghost use Rattle.zarrs_engine.specs.Patches.{LeavesPartly, LeavesPatch, PatchesChunk, PutsPart};
     ghost use Rattle.zarrs_engine.specs.Patches.{RefusesPutPart, Shares};
 
-    /// Returns whether the parts of chunks are written by themselves: the chain and the store can.
+    /// Returns whether the chain and the store can write parts by themselves.
     pub(crate) fn encodes_partly(&self) -> bool
         ensures { result ≡ ((layout_of self.now).chain.encodes_partly
             && (store_of S.state self.now).sets_parts) }
@@ -170,9 +170,9 @@ impl<
     /// # Errors
     /// In this order: E2 for a part of another number of dimensions, or that passes the chunk; E8 for a part that is the
     /// whole chunk and has more bytes than a `usize` counts; E4 for data that is not one cell for each position, each a
-    /// value of the data type. Then E7 if the store refuses its key; E4 if the chain does not take it,
-    /// or its bytes do not decode, or E8 if a size is too large; E7 if the store refuses the write. E9 may come at any time.
-    /// Nothing is changed then.
+    /// value of the data type. Then, if the chunk is stored whole, E8 for such a chunk; E7 if the store refuses its key; E4
+    /// if the chain does not take it, or its bytes do not decode, or E8 if a size is too large; E7 if the store refuses the
+    /// write. E9 may come at any time. Nothing is changed then.
     pub fn partial_encode(
         &mut self,
         alloc: Global,
@@ -204,7 +204,7 @@ impl<
         self.store_whole(alloc, &region, chunk_subset_data, &chunk, options)
     }
 
-    /// Stores the part of the region's data that one chunk takes, by itself. The region covers a part of the chunk alone.
+    /// Stores the part of the region's data that one chunk takes, by itself. The region covers the chunk only in part.
     pub(super) fn patch_part(
         &mut self,
         alloc: Global,

@@ -69,8 +69,7 @@ impl<
         Ok(value)
     }
 
-    /// Returns the cells of the chunk with these indices, of which this is stored: none of an absent chunk, which is all
-    /// fill value.
+    /// Returns the cells of the chunk with these indices, whose stored value this is. If it is `None`, they are all fill.
     #[inline(always)]
     fn cells_of(
         &self,

@@ -146,7 +146,7 @@ pub(super) fn form_of(data_type: &DataType) -> Option<CellForm>
     Some(CellForm { size, depth })
 }
 
-/// At how many levels the type is optional, or `None` for more of them than a `usize` counts.
+/// Returns at how many levels the type is optional, or `None` for more of them than a `usize` counts.
 fn depth_of(data_type: &DataType) -> Option<usize>
     ensures { IfSome result (λ depth. depth ≡ depth_of (kind data_type.now)) }
 {
@@ -166,7 +166,7 @@ fn zero_masks(alloc: Global, count: usize, depth: usize) -> Result<Vec<u8>, Allo
     vec![in alloc; 0u8; len]
 }
 
-/// These masks with 1 for each byte above 1, which says of its cell the same.
+/// Returns these masks with 1 for each byte above 1, which means the same.
 fn into_flags(masks: Vec<u8>) -> Vec<u8>
     ensures len { length result.items ≡ length masks.items }
     ensures same { EachIndex masks.items (λ i. slice_index result.items i

@@ -42,7 +42,7 @@ impl<
     ghost use Rattle.zarrs_engine.specs.RegionReads.{DecodesStored, HasRead, IsRegionOf, MayReadOver};
     ghost use Rattle.zarrs_engine.specs.RegionReads.{ReadsChunkOf, ReadsOver, ReadsShare};
 
-    /// Returns the cells of a region if each is the fill value's.
+    /// Returns as many fill values as the region has positions.
     pub(super) fn region_of_fill(
         &self,
         alloc: Global,
@@ -61,7 +61,7 @@ impl<
         Ok(made)
     }
 
-    /// Returns the cells that a chunk of this shape has of a part, seen from the corner of the chunk, or `None` if the
+    /// Returns the cells that a chunk of this shape has of a part, seen from the origin of the chunk, or `None` if the
     /// chunk is absent. No other bytes of it are read than those that the part needs.
     pub(super) fn part_of_chunk(
         &self,
@@ -147,8 +147,8 @@ impl<
         Ok(Some(part.into_owned(alloc)?))
     }
 
-    /// The same, of a chunk of which the region covers a part alone. No other bytes of the chunk are read than those that
-    /// the part needs.
+    /// The same, of a chunk that the region covers only in part. No other bytes of the chunk are read than those that the
+    /// part needs.
     fn shared_part(
         &self,
         alloc: Global,
@@ -289,7 +289,7 @@ impl<
     }
 
     /// Returns the cells of a part of the chunk with these indices, which has this shape, just as they are decoded. The
-    /// part is seen from the corner of the chunk, and is not all of it. Where the chunk is absent they are fill. No
+    /// part is seen from the origin of the chunk, and is not all of it. Where the chunk is absent they are fill. No
     /// other bytes of the chunk are read than those that the part needs.
     pub(super) fn read_part(
         &self,

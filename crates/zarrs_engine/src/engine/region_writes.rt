@@ -143,8 +143,8 @@ impl<
         Ok(())
     }
 
-    /// Stores the part of the region's data that one chunk takes: by itself where `parts` are written so and the region
-    /// covers a part of the chunk alone, else whole.
+    /// Stores the part of the region's data that one chunk takes: by itself if `parts` are written so and the region covers
+    /// the chunk only in part, else whole.
     fn store_part(
         &mut self,
         alloc: Global,
@@ -175,8 +175,8 @@ impl<
         self.store_whole(alloc, region, region_data, &chunk, options)
     }
 
-    /// Stores the region's data in these chunks, one after another: in those of which it covers a part alone by
-    /// themselves, where `parts` are written so.
+    /// Stores the region's data in these chunks, one after another. If `parts` are written by themselves, so are those of
+    /// chunks that it covers only in part.
     fn store_along(
         &mut self,
         alloc: Global,
@@ -218,7 +218,7 @@ impl<
     /// In this order: E8 for more chunks than a `u64` counts; of a range of one chunk the errors of `store_chunk`; E3
     /// for a first index without a chunk, then for such a last one; E4 for data that is not one cell for each position,
     /// each a value of the data type. Then, at one of the chunks: E8 for a chunk of more bytes than a `usize` counts;
-    /// E4 if the chain does not take it; E8 if its bytes pass a size; E7 if the store refuses. E9 may come at any time.
+    /// E4 if the chain does not take it; E8 if an encoded size overflows; E7 if the store refuses. E9 may come at any time.
     /// The chunks before that one are stored then, and no later one.
     pub fn store_chunks(
         &mut self,
@@ -253,8 +253,8 @@ impl<
     /// than a `usize` counts; E4 for data that is not one cell for each position, each a value of the data type. Then
     /// E8 for such a chunk; of a chunk that is read, E7 if the store refuses its key, and E4 if its bytes do not decode,
     /// or E8 if a chunk of fill has more bytes than a `usize` counts, which is needed where the chunk is absent or its
-    /// bytes leave out cells; E4 if the chain does not take it; E8 if its bytes pass a size; E7 if the store refuses the
-    /// write. E9 may come at any time. Nothing is changed then.
+    /// bytes leave out cells; E4 if the chain does not take it; E8 if an encoded size overflows; E7 if the store refuses
+    /// the write. E9 may come at any time. Nothing is changed then.
     pub fn store_chunk_subset(
         &mut self,
         alloc: Global,
@@ -285,8 +285,8 @@ impl<
     }
 
     /// Stores the cells, in row-major order, over the region, one chunk after another in row-major order, each by one
-    /// writing call of the store. A chunk of which the region covers a part alone is read first; cells of it outside
-    /// the region stay. An empty region asks nothing of the store.
+    /// writing call of the store. A chunk that the region covers only in part is read first; its cells outside the region
+    /// stay. An empty region asks nothing of the store.
     ///
     /// # Errors
     /// In this order: E1 for another number of dimensions, or a position that no chunk covers; for a region that is one
@@ -294,7 +294,7 @@ impl<
     /// value of the data type. Then, at one of the chunks: E8 for a chunk of more bytes than a `usize` counts; of a
     /// chunk that is read, E7 if the store refuses its key, and E4 if its bytes do not decode, or E8 if a chunk of fill
     /// has more bytes than that, which is needed where the chunk is absent or its bytes leave out cells; E4 if the chain
-    /// does not take it; E8 if its bytes pass a size; E7 if the store refuses the write. E9 may come at any time. The
+    /// does not take it; E8 if an encoded size overflows; E7 if the store refuses the write. E9 may come at any time. The
     /// chunks before that one are stored then, and no later one.
     pub fn store_array_subset(
         &mut self,

@@ -177,8 +177,8 @@ impl<
     /// at one of the chunks: E8 for a chunk of more bytes than a `usize` counts; E7 if the store refuses its key; E4 if
     /// its bytes do not decode, or E8 if a chunk of fill has more bytes than that, which is needed where the chunk is absent
     /// or its bytes leave out cells; E8 if the fill in place of what is cut away has; E4 if the chain does not take it; E8 if
-    /// its bytes pass a size; E7 if the store refuses the write. E9 may come at any time before the last
-    /// chunk is cut. The chunks before that one are cut then, and no later one, and the array has the shape that it had.
+    /// an encoded size overflows; E7 if the store refuses the write. E9 may come at any time before the last chunk is cut.
+    /// The chunks before that one are cut then, and no later one, and the array has the shape that it had.
     pub fn resize(
         &mut self,
         alloc: Global,

@@ -58,7 +58,7 @@ impl<
     /// # Errors
     /// In this order: E3 for indices without a chunk; E8 for a chunk of more bytes than a `usize` counts; E4 for data
     /// that is not one cell for each position, each a value of the data type, or that the chain does not take; E8 if
-    /// the bytes pass a size; E7 if the store refuses. E9 may come at any time. Nothing is changed then.
+    /// an encoded size overflows; E7 if the store refuses. E9 may come at any time. Nothing is changed then.
     pub fn store_chunk(
         &mut self,
         alloc: Global,

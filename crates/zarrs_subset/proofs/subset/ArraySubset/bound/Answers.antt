@@ -55,4 +55,3 @@ returns-clause-value c =
     let start : c.loop-k.start.items ≡ (bound_to (box_of a) end).start = cut_starts _ _ _ _ _ c.loop-k.k same all c.loop-k.invariant.cut in
     let shape : c.loop-k.shape.items ≡ (bound_to (box_of a) end).shape = cut_extents _ _ _ _ _ c.loop-k.k a.same_length same all c.loop-k.invariant.cut in
     rw (start, shape) refl
-

@@ -16,4 +16,3 @@ overflow_sub-index c =
     let a = c.args.self.now in
     let below : c.loop-k.k < length a.start.items = omega (arith, c.loop-k-test.true, c.in_ok-check_length.ensures.ok, c.len.ensures, a.start.ok.0) in
     omega (arith, end_fits a.start.items a.shape.items c.loop-k.k _ _ a.ends_fit a.same_length below c.index.ensures c.index-in-loop-k.ensures)
-
