@@ -30,6 +30,7 @@ pub record HasCells (shape : List ℕ) (cell : ℕ) (part : Box) (wanted : Wante
 -- Each place of the file of a chunk is wanted that a read of the region needs: those of its part, and each place if the
 -- region covers the chunk.
 pub record ServesRegion (layout : Layout) (region : Box) (index : List ℕ) (wanted : Option Wanted) : Type 0 where
-  pub part : (value : List ℕ) (place : ℕ) → layout.chain.places layout.kind (box_at layout.grid index).shape (chunk_part region (box_at layout.grid index)) value place ≡ true
+  pub part : (value : List ℕ) (place : ℕ)
+      → layout.chain.places layout.kind (box_at layout.grid index).shape (chunk_part region (box_at layout.grid index)) value place ≡ true
       → IsWanted wanted (length value) place
   pub whole : CoversBox region (box_at layout.grid index) → (size place : ℕ) → place < size → IsWanted wanted size place

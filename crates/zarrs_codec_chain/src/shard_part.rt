@@ -70,7 +70,8 @@ impl<'s, 'p, B: ByteSource> ShardPart<'s, 'p, B> {
     ghost use Rattle.zarrs_codec_chain.specs.OpenShards.{read_of};
     ghost use Rattle.zarrs_codec_chain.specs.Places.{boxes_meet};
     ghost use Rattle.zarrs_codec_chain.specs.ShardParts.{HasOnlyMet, IsNoShard, MeetsPart};
-    ghost use Rattle.zarrs_codec_chain.specs.ShardReads.{HasNoSubchunk, HasNone, IsAt, IsShare, IsSole, box_at, count_of, entry_of, parts_of};
+    ghost use Rattle.zarrs_codec_chain.specs.ShardReads.{HasNoSubchunk, HasNone, IsAt, IsShare, IsSole};
+    ghost use Rattle.zarrs_codec_chain.specs.ShardReads.{box_at, count_of, entry_of, parts_of};
     ghost use Rattle.zarrs_codec_chain.specs.Stored.{MayReadAll};
 
     /// A part of a shard of this shape that is cut into subchunks of the shape `sub`, or `None` if the bytes are no such

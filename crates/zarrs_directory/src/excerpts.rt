@@ -71,7 +71,7 @@ impl<'d, 'r, R: Files + AllocGlobal> Excerpts<'d, 'r, R> {
     /// are.
     ///
     /// # Errors
-    /// `Other` with the key and the system's text if the file cannot be read; `OutOfMemory`.
+    /// `Other` with the key and the system's text if the file cannot be read; `OutOfMemory`. What is held then is not said.
     pub fn read(
         &mut self,
         alloc: Global,

@@ -26,9 +26,8 @@ use Rattle.zarrs_engine.specs.RegionReads.{IsRegionOf}
 use Rattle.zarrs_engine_layout.proofs.Chunks.{unread_why}
 use Rattle.zarrs_engine_layout.proofs.OneChunk.{covers_lies, first_held, region_lies}
 use Rattle.zarrs_engine_layout.proofs.RegionRefusals.{some_fill}
-use Rattle.zarrs_codec_chain.proofs.MovedBoxes.{overlap_inside}
+use Rattle.zarrs_codec_chain.proofs.MovedBoxes.{overlap_inside, overlap_within}
 use Rattle.zarrs_engine.proofs.PartBytes.{size_fits}
-use Rattle.zarrs_engine.proofs.PartReads.{overlap_within}
 use Rattle.zarrs_engine.proofs.PartWrites.{large_region, lies_covers}
 
 module _ (layout : Layout) (lawful : IsLawful layout) (region : Box) (index : List ℕ) (cover : CoverRegion layout.grid region (index ∷ [])) where

@@ -1,5 +1,5 @@
 -- Reads of parts of chunks.
-use Rattle.std.proofs.Common.{◌≡◌, ◌+◌, ◌-◌, ◌*◌, ◌^◌, ◌<◌, ◌≤◌, max, min, nat_le, ℕ, zero, suc, Bool, true, false, cond, List, [], ◌∷◌, length, replicate}
+use Rattle.std.proofs.Common.{◌≡◌, ◌+◌, ◌-◌, ◌*◌, ◌^◌, ◌<◌, nat_le, ℕ, zero, suc, Bool, true, false, cond, List, [], ◌∷◌, length, replicate}
 use Rattle.std.proofs.Common.{slice_index, Option, Some, None, Contains, refl, sym, ◌∙◌, ap, subst, inl, inr, arith}
 use Rattle.std.specs.List.{SomeIndex}
 use Rattle.std.specs.Option.{option_or}
@@ -8,8 +8,8 @@ use Rattle.std.proofs.lemmas.Bool.{cases_Bool, and_from, and_parts, false≢true
 use Rattle.std.proofs.lemmas.Grind.{same_number_lists}
 use Rattle.std.proofs.lemmas.List.{get_or-replicate, length-replicate}
 use Rattle.std.proofs.lemmas.Slice.Eq.{bytes_eq-Decides}
-use Rattle.zarrs_subset.specs.Boxes.{offset_by, overlap_extents, overlap_start, position_count, zip_with}
-use Rattle.zarrs_subset.specs.Regions.{Box, IsLong, Holds, LiesInShape, box_from, overlap_of, seen_from, shifted_box, LiesInBox}
+use Rattle.zarrs_subset.specs.Boxes.{offset_by, position_count, zip_with}
+use Rattle.zarrs_subset.specs.Regions.{Box, IsLong, Holds, LiesInShape, box_from, seen_from, shifted_box, LiesInBox}
 use Rattle.zarrs_subset.proofs.Counts.{count_some}
 use Rattle.zarrs_subset.proofs.Overlaps.{AllSome, in_box-empty, length-zip_with}
 use Rattle.zarrs_subset.proofs.Parts.{zip_with-at}
@@ -41,7 +41,7 @@ use Rattle.zarrs_engine.specs.RegionReads.{DecodesStored, HasRead, IsRegionOf, R
 use Rattle.zarrs_engine_layout.proofs.ChunkParts.{chunk_has, part_lies, shifted_part}
 use Rattle.zarrs_engine_layout.proofs.Chunks.{right_length}
 use Rattle.zarrs_engine_layout.proofs.OneChunk.{covers_lies}
-use Rattle.zarrs_codec_chain.proofs.MovedBoxes.{overlap_inside}
+use Rattle.zarrs_codec_chain.proofs.MovedBoxes.{overlap_inside, overlap_within}
 use Rattle.zarrs_engine.proofs.PartBytes.{size_fits}
 use Rattle.zarrs_engine.proofs.PartWrites.{large_region, lies_covers}
 use Rattle.zarrs_engine.proofs.RegionReads.{read_absent, read_all, read_alone, read_apart, read_none}
@@ -111,38 +111,6 @@ module _ (layout : Layout) (lawful : IsLawful layout) (index : List ℕ) (has : 
       })
 
 -- ---- where a part lies
-
-start_within : (R C : List ℕ) → length R ≡ length C → ((k : ℕ) → k < length R → slice_index C k ≤ slice_index R k) → overlap_start R C ≡ R
-start_within [] [] same below = refl
-start_within [] (c ∷ C) same below = absurd (omega arith)
-start_within (r ∷ R) [] same below = absurd (omega arith)
-start_within (r ∷ R) (c ∷ C) same below =
-    let low : c ≤ r = below 0 (omega arith) in
-    let first : max r c ≡ r = omega arith in
-    ap (λ x. x ∷ overlap_start R C) first ∙ ap (λ l. r ∷ l) (start_within R C (omega arith) (λ k lt. below (suc k) (omega arith)))
-
-extents_within : (R X C Y : List ℕ) → length X ≡ length R → length C ≡ length R → length Y ≡ length R → ((k : ℕ) → k < length R → slice_index C k ≤ slice_index R k)
-    → ((k : ℕ) → k < length R → slice_index R k + slice_index X k ≤ slice_index C k + slice_index Y k) → overlap_extents R X C Y ≡ X
-extents_within [] [] C Y extents same other below ends = refl
-extents_within [] (x ∷ X) C Y extents same other below ends = absurd (omega arith)
-extents_within (r ∷ R) [] C Y extents same other below ends = absurd (omega arith)
-extents_within (r ∷ R) (x ∷ X) [] Y extents same other below ends = absurd (omega arith)
-extents_within (r ∷ R) (x ∷ X) (c ∷ C) [] extents same other below ends = absurd (omega arith)
-extents_within (r ∷ R) (x ∷ X) (c ∷ C) (y ∷ Y) extents same other below ends =
-    let low : c ≤ r = below 0 (omega arith) in
-    let high : r + x ≤ c + y = ends 0 (omega arith) in
-    let first : min (r + x) (c + y) - max r c ≡ x = omega arith in
-    ap (λ n. n ∷ overlap_extents R X C Y) first
-    ∙ ap (λ l. x ∷ l) (extents_within R X C Y (omega arith) (omega arith) (omega arith) (λ k lt. below (suc k) (omega arith)) (λ k lt. ends (suc k) (omega arith)))
-
--- a region that lies in a chunk is all that they share
-pub overlap_within : (region chunk : Box) → IsLong region → IsLong chunk → LiesInBox region chunk → overlap_of region chunk ≡ region
-overlap_within region chunk long chunk_long lies =
-    let below : (k : ℕ) → k < length region.start → slice_index chunk.start k ≤ slice_index region.start k = λ k lt. lies.starts k (omega (arith, lies.same_length)) in
-    let start = start_within region.start chunk.start lies.same_length below in
-    let extents = extents_within region.start region.shape chunk.start chunk.shape (sym long) (sym lies.same_length) (sym chunk_long ∙ sym lies.same_length) below
-    (λ k lt. lies.ends k (omega (arith, lies.same_length))) in
-    ap (λ s. record { start = s; shape = overlap_extents region.start region.shape chunk.start chunk.shape }) start ∙ ap (λ x. record { start = region.start; shape = x }) extents
 
 -- such a region is all of what is shared, and its part is the region, seen from the corner of the chunk
 pub alone_shared : (region chunk part : Box) → IsLong region → IsLong chunk → LiesInBox region chunk → part ≡ seen_from region chunk.start → 0 < position_count region.shape → AreShared region chunk region part

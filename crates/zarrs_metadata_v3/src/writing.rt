@@ -21,44 +21,20 @@ pub(crate) fn document_value(alloc: Global, document: &ArrayMetadataV3) -> Resul
     let fields = written_fields(alloc, &document.additional_fields)?;
     let mut members = other_members(fields);
     put_member(&mut members, alloc, "zarr_format", Some(Value::from(3u64)))?;
-    put_written(
-        &mut members,
-        alloc,
-        "node_type",
-        Value::try_from_str(alloc, "array"),
-    )?;
-    put_written(
-        &mut members,
-        alloc,
-        "shape",
-        numbers_value(alloc, document.shape.as_slice()),
-    )?;
-    put_written(
-        &mut members,
-        alloc,
-        "data_type",
-        document.data_type.to_value(alloc),
-    )?;
-    put_written(
-        &mut members,
-        alloc,
-        "chunk_grid",
-        document.chunk_grid.to_value(alloc),
-    )?;
+    let node_type = Value::try_from_str(alloc, "array");
+    put_written(&mut members, alloc, "node_type", node_type)?;
+    let shape = numbers_value(alloc, document.shape.as_slice());
+    put_written(&mut members, alloc, "shape", shape)?;
+    let data_type = document.data_type.to_value(alloc);
+    put_written(&mut members, alloc, "data_type", data_type)?;
+    let chunk_grid = document.chunk_grid.to_value(alloc);
+    put_written(&mut members, alloc, "chunk_grid", chunk_grid)?;
     let key_encoding = document.chunk_key_encoding.to_value(alloc);
     put_written(&mut members, alloc, "chunk_key_encoding", key_encoding)?;
-    put_written(
-        &mut members,
-        alloc,
-        "fill_value",
-        document.fill_value.to_value(alloc),
-    )?;
-    put_written(
-        &mut members,
-        alloc,
-        "codecs",
-        extensions_value(alloc, &document.codecs),
-    )?;
+    let fill_value = document.fill_value.to_value(alloc);
+    put_written(&mut members, alloc, "fill_value", fill_value)?;
+    let codecs = extensions_value(alloc, &document.codecs);
+    put_written(&mut members, alloc, "codecs", codecs)?;
     let attributes = object_value(&document.attributes)?;
     put_member(&mut members, alloc, "attributes", attributes)?;
     let transformers = transformers_value(alloc, &document.storage_transformers)?;
