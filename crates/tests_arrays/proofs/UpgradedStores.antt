@@ -1,5 +1,5 @@
 -- V2 metadata that is stored in a store without V3 metadata, and then upgraded.
-use Rattle.std.proofs.Common.{◌≡◌, ◌≢◌, ◌==◌, ◌∙◌, ℕ, List, Option, None, Ok, true, false, drop, refl, sym, ap, subst}
+use Rattle.std.proofs.Common.{◌≡◌, ◌≢◌, ◌==◌, ◌∙◌, ℕ, List, None, Ok, true, false, drop, refl, sym, ap, subst}
 use Rattle.std.specs.Prelude.{slice_index}
 use Rattle.std.proofs.lemmas.List.{append_cancel_left}
 use Rattle.zarrs_storage.specs.Store.{StoreState}

@@ -7,7 +7,7 @@ use Rattle.zarrs_metadata.specs.Versions.{MetadataData, v2}
 use Rattle.zarrs_options.specs.Refusals.{CreateRefusal, missing_metadata, said_or, storage}
 use Rattle.zarrs_options.specs.declared.versions.MetadataRetrieveVersion.{MetadataRetrieveVersion}
 use Rattle.zarrs_options.specs.declared.versions.MetadataRetrieveVersion.TheVariants as retrieve
-use Rattle.zarrs_creation.specs.Meanings.{creation, path_said, ◌>>=◌}
+use Rattle.zarrs_creation.specs.Meanings.{path_said, ◌>>=◌}
 use Rattle.zarrs_creation.specs.Opening.{attributed, attributes_key, document_v2_read, opened, or_stored_v2, stored_by, stored_default, stored_metadata, stored_v2, stored_v3, v2_array_key, v2_metadata_at, v3_key, v3_of, value_asked, with_stored_attributes}
 use Rattle.zarrs.specs.OpeningReach.{AgreeAtKey, OpeningsDependOnTheReach}
 

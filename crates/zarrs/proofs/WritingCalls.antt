@@ -9,7 +9,7 @@ use Rattle.zarrs_storage.specs.declared.error.StorageError.{StorageError}
 use Rattle.zarrs_storage.specs.declared.error.StorageError.TheVariants as stored
 use Rattle.zarrs_storage.proofs.ValuesLemmas.{get_inserted, get_removed}
 use Rattle.zarrs_engine_calls.specs.Changes.{Makes, IsPut}
-use Rattle.zarrs_engine_calls.specs.Refusals.{Refusal, refusal_of_storage}
+use Rattle.zarrs_engine_calls.specs.Refusals.{refusal_of_storage}
 use Rattle.zarrs_engine_calls.specs.StateRefusals.{RefusesErasure, CallFails}
 use Rattle.zarrs_engine_layout.specs.Steps.{RefusesPut}
 

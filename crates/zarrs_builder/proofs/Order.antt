@@ -1,5 +1,5 @@
 -- Which refusal of a builder comes first.
-use Rattle.std.proofs.Common.{◌≡◌, ◌==◌, ℕ, ◌<◌, Bool, true, false, List, [], ◌∷◌, length, Option, Some, None, Result, Ok, Err, refl, sym, ap, subst, ◌∙◌, cond, arith}
+use Rattle.std.proofs.Common.{◌≡◌, ◌==◌, ℕ, ◌<◌, Bool, true, false, List, [], ◌∷◌, length, Option, Some, None, Result, Ok, refl, sym, ap, subst, ◌∙◌, cond, arith}
 use Rattle.std.specs.Prelude.{option_and_then}
 use Rattle.std.specs.Int.NonZero.{non_zero_u64_get}
 use Rattle.std.specs.List.{list_any}
@@ -15,10 +15,10 @@ use Rattle.zarrs_chunk_grid.specs.declared.grid.ChunkGrid.{ChunkGrid}
 use Rattle.zarrs_chunk_grid.proofs.ConfigurationLemmas.{own_taken}
 use Rattle.zarrs_chunk_grid.proofs.MetadataLemmas.{said_back}
 use Rattle.zarrs_data_type.specs.FillMetadata.{fill_said}
-use Rattle.zarrs_data_type.specs.TypeMetadata.{kind_of, is_readable}
+use Rattle.zarrs_data_type.specs.TypeMetadata.{is_readable}
 use Rattle.zarrs_data_type_kinds.proofs.TypeReading.{kind_of-extension}
 use Rattle.zarrs_data_type.specs.Kind.{Kind}
-use Rattle.zarrs_codec.specs.ShardingMetadata.{sizes_of}
+use Rattle.zarrs_metadata_parts.specs.Lists.{sizes_of}
 use Rattle.zarrs_codec.specs.Metadata.{chain_said, extensions_of_chain}
 use Rattle.zarrs_codec.specs.Configurations.{ChainData}
 use Rattle.zarrs_metadata_v3.specs.Document.{DocumentData}

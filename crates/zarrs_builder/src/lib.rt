@@ -10,7 +10,6 @@
 #![tactic(auto)]
 
 mod builder;
-mod copies;
 mod data_type;
 mod fill_value;
 mod names;

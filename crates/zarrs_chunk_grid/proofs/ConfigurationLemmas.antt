@@ -8,7 +8,7 @@ use Rattle.std.proofs.lemmas.List.{length-map}
 use Rattle.zarrs_metadata_parts.specs.Refusals.{RefusesMeaning}
 use Rattle.zarrs_metadata_parts.specs.declared.error.PluginCreateError.{PluginCreateError}
 use Rattle.zarrs_metadata_parts.specs.declared.error.PluginCreateError.TheVariants as plugin
-use Rattle.zarrs_chunk_grid.specs.Axes.{sizes_of}
+use Rattle.zarrs_metadata_parts.specs.Lists.{sizes_of}
 use Rattle.zarrs_chunk_grid.specs.Configurations.{GridConfiguration, regular, bounded, chunk_counts, dimensions_of, fills_shape, grid_of, takes_shape, counts_of, sizes_view}
 use Rattle.zarrs_chunk_grid.specs.Metadata.{over_shape}
 use Rattle.zarrs_chunk_grid.specs.GridView.{configuration_of, array_extents_of, grid_extents_of}

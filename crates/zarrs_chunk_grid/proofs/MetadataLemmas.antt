@@ -1,30 +1,19 @@
 -- Chunk grids in metadata: what is written reads as what was written.
-use Rattle.std.proofs.Common.{◌≡◌, ℕ, ◌<◌, ◌^◌, List, map, Option, Some, option_map, option_and_then, sum, refl, ap, ◌∙◌, arith}
-use Rattle.std.specs.Int.NonZero.{non_zero_u64_get}
+use Rattle.std.proofs.Common.{◌≡◌, ℕ, ◌<◌, ◌^◌, List, map, Option, Some, option_map, option_and_then, sum, refl, ap, ◌∙◌}
 use Rattle.std.specs.Option.{option_or}
-use Rattle.std.specs.declared.num.NonZeroU64.{NonZeroU64}
-use Rattle.std.proofs.lemmas.Bool.{ne_eqb, lt-ltb}
+use Rattle.std.proofs.lemmas.Bool.{lt-ltb}
 use Rattle.std.proofs.lemmas.Simd.{map-map}
 use Rattle.serde_json.specs.Data.{Data}
 use Rattle.serde_json.specs.View.{items_of}
-use Rattle.zarrs_metadata_parts.specs.Lists.{all_of, list_of, list_data, number_data}
-use Rattle.zarrs_metadata_parts.proofs.ListLemmas.{all_of-items_of}
-use Rattle.zarrs_chunk_grid.specs.Axes.{sizes_of}
+use Rattle.zarrs_metadata_parts.specs.Lists.{all_of, list_of, list_data, sizes_of}
+use Rattle.zarrs_metadata_parts.proofs.ListLemmas.{all_of-items_of, size_back, sizes_back}
 use Rattle.zarrs_chunk_grid.specs.Configurations.{DimensionSizes, one, listed, regular, bounded, rectangular, sizes_view}
-use Rattle.zarrs_chunk_grid.specs.Metadata.{size_said, sizes_said, listed_within, sizes_data, configuration_said, extension_of_grid}
+use Rattle.zarrs_chunk_grid.specs.Metadata.{sizes_said, listed_within, sizes_data, configuration_said, extension_of_grid}
 use Rattle.zarrs_chunk_grid.specs.GridView.{configuration_of}
 use Rattle.zarrs_chunk_grid.specs.declared.dimension.ChunkSizes.{ChunkSizes}
 use Rattle.zarrs_chunk_grid.specs.declared.dimension.ChunkSizes.TheVariants.{Size, Sizes}
 use Rattle.zarrs_chunk_grid.specs.declared.grid.ChunkGrid.{ChunkGrid}
 use Rattle.zarrs_chunk_grid.specs.declared.grid.ChunkGrid.TheVariants.{Regular, RegularBounded, Rectangular}
-
-size_back : (size : NonZeroU64) → size_said (number_data size.value) ≡ Some size.value
-size_back size = let some = size.ok in rw (ne_eqb size.value 0 (λ z. absurd (omega arith))) refl
-
-sizes_back : (sizes : List NonZeroU64) → list_of size_said (list_data number_data (sizes_of sizes)) ≡ Some (sizes_of sizes)
-sizes_back sizes =
-    ap (λ (ds : List Data). all_of size_said (items_of ds)) (map-map number_data non_zero_u64_get sizes)
-    ∙ all_of-items_of size_said (λ (size : NonZeroU64). number_data size.value) non_zero_u64_get size_back sizes
 
 or_first : (said : Option ℕ) (n : ℕ) (rest : Option DimensionSizes) → said ≡ Some n → option_or (option_map one said) rest ≡ Some (one n)
 or_first said n rest is = rw is refl

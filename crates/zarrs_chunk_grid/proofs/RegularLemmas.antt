@@ -6,7 +6,8 @@ use Rattle.std.specs.List.{zip}
 use Rattle.std.specs.Int.{div_ceil}
 use Rattle.std.specs.Int.NonZero.{non_zero_u64_get}
 use Rattle.std.proofs.lemmas.Grind.{div_ceil_times}
-use Rattle.zarrs_chunk_grid.specs.Axes.{IsInterval, bounded_axis, sizes_of}
+use Rattle.zarrs_metadata_parts.specs.Lists.{sizes_of}
+use Rattle.zarrs_chunk_grid.specs.Axes.{IsInterval, bounded_axis}
 use Rattle.zarrs_chunk_grid.specs.GridLaws.{numbered_before}
 use Rattle.zarrs_chunk_grid.specs.Configurations.{chunk_counts}
 

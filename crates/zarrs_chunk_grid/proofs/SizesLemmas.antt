@@ -11,7 +11,8 @@ use Rattle.std.proofs.lemmas.List.{length-map, take_all}
 use Rattle.std.proofs.lemmas.List.Sums.{sum_by-take-le}
 use Rattle.std.proofs.lemmas.List.Sorted.{IsNonDecreasingBy-from_default}
 use Rattle.std.proofs.lemmas.List.FromFn.{length-map-range_with_len, get_or-map-range_with_len}
-use Rattle.zarrs_chunk_grid.specs.Axes.{Covers, IsInterval, sizes_axis, sizes_of, ends_of_sizes}
+use Rattle.zarrs_metadata_parts.specs.Lists.{sizes_of}
+use Rattle.zarrs_chunk_grid.specs.Axes.{Covers, IsInterval, sizes_axis, ends_of_sizes}
 use Rattle.zarrs_chunk_grid.specs.Configurations.{rectangular, chunks_along, counts_of, fills, all_fill, sizes_view}
 use Rattle.zarrs_chunk_grid.specs.GridLaws.{size_read, sizes_axis_lawful, sum_more}
 use Rattle.zarrs_chunk_grid.specs.declared.dimension.ChunkSizes.{ChunkSizes}

@@ -11,7 +11,8 @@ use Rattle.std.proofs.lemmas.List.Elements.{All-get_or, All-map}
 use Rattle.std.proofs.lemmas.List.Sums.{sum_by_more}
 use Rattle.std.proofs.lemmas.Grind.{div_ceil_times}
 use Rattle.std.proofs.Math.Nat.{div-mul-le_self, mul-le-mul_right}
-use Rattle.zarrs_chunk_grid.specs.Axes.{IsAxis, regular_axis, bounded_axis, sizes_axis, sizes_of}
+use Rattle.zarrs_metadata_parts.specs.Lists.{sizes_of}
+use Rattle.zarrs_chunk_grid.specs.Axes.{IsAxis, regular_axis, bounded_axis, sizes_axis}
 use Rattle.zarrs_chunk_grid.specs.Grids.{IsGrid}
 use Rattle.zarrs_chunk_grid.specs.Configurations.{IsSizes, DimensionSizes, one, listed, axis_of, grid_of, sizes_view, regular, bounded, rectangular}
 use Rattle.zarrs_chunk_grid.specs.declared.dimension.ChunkSizes.{ChunkSizes}

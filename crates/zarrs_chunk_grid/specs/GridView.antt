@@ -2,7 +2,7 @@
 use Rattle.std.specs.Prelude.{◌≡◌, ℕ, List, map, Option, Some, option_and_then, Result, Ok, Err}
 use Rattle.zarrs_metadata_parts.specs.Refusals.{RefusesMeaning}
 use Rattle.zarrs_metadata_parts.specs.declared.error.PluginCreateError.{PluginCreateError}
-use Rattle.zarrs_chunk_grid.specs.Axes.{sizes_of}
+use Rattle.zarrs_metadata_parts.specs.Lists.{sizes_of}
 use Rattle.zarrs_chunk_grid.specs.Configurations.{GridConfiguration, regular, bounded, rectangular, sizes_view}
 use Rattle.zarrs_chunk_grid.specs.Metadata.{over_shape}
 use Rattle.zarrs_chunk_grid.specs.declared.grid.ChunkGrid.{ChunkGrid}

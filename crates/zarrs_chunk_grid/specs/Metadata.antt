@@ -1,24 +1,14 @@
 -- What the metadata of a chunk grid says, and what is written for one.
-use Rattle.std.specs.Prelude.{◌==◌, ◌||◌, ◌^◌, nat_lt, ℕ, Bool, true, List, [], ◌∷◌, sum, codes, if◌then◌else◌}
+use Rattle.std.specs.Prelude.{◌||◌, ◌^◌, nat_lt, ℕ, Bool, List, sum, codes, if◌then◌else◌}
 use Rattle.std.specs.Prelude.{Option, Some, None, option_map, option_and_then}
 use Rattle.std.specs.Option.{option_or}
 use Rattle.std.specs.Str.{bytes_eq}
-use Rattle.serde_json.specs.Data.{Data, Members, no_members, member}
-use Rattle.serde_json.specs.Find.{get_member}
-use Rattle.zarrs_metadata_parts.specs.Members.{has_only}
-use Rattle.zarrs_metadata_parts.specs.Lists.{list_of, list_data, number_of, number_data}
-use Rattle.zarrs_metadata_parts.specs.Extension.{ExtensionData, settings, ◌>>=◌}
+use Rattle.serde_json.specs.Data.{Data}
+use Rattle.zarrs_metadata_parts.specs.Lists.{list_of, list_data, number_data, size_said}
+use Rattle.zarrs_metadata_parts.specs.Extension.{ExtensionData, settings, only_member, extension_with_member, ◌>>=◌}
 use Rattle.zarrs_chunk_grid.specs.Configurations.{DimensionSizes, one, listed, takes_shape, GridConfiguration, regular, bounded, rectangular}
 
 -- ---- what an extension point says
-
--- a size is not 0
-abbrev pub nonzero : ℕ → Option ℕ
-nonzero n = if n == 0 then None else Some n
-
--- the size that a JSON value says
-abbrev pub size_said : Data → Option ℕ
-size_said d = option_and_then nonzero (number_of d)
 
 -- sizes that end below 2 ^ 64, as every extent does
 abbrev pub listed_within : List ℕ → Option DimensionSizes
@@ -46,14 +36,9 @@ named_configuration name d =
     then option_map rectangular (list_of sizes_said d)
     else None))
 
--- the one member of a configuration, `chunk_shape`
-abbrev pub only_chunk_shape : Members → Option Data
-only_chunk_shape ms =
-    if has_only (codes "chunk_shape" ∷ []) ms then get_member (codes "chunk_shape") ms else None
-
 -- the configuration that an extension point says
 abbrev pub configuration_said : ExtensionData → Option GridConfiguration
-configuration_said e = only_chunk_shape (settings e) >>= named_configuration e.name
+configuration_said e = only_member (codes "chunk_shape") (settings e) >>= named_configuration e.name
 
 -- the configuration, if there is such a grid over an array of that shape
 abbrev pub over_shape : List ℕ → GridConfiguration → Option GridConfiguration
@@ -80,16 +65,7 @@ shape_data (regular sizes) = list_data number_data sizes
 shape_data (bounded sizes) = list_data number_data sizes
 shape_data (rectangular sizes) = list_data sizes_data sizes
 
--- an extension point of this name whose configuration is this `chunk_shape`
-abbrev pub extension_with : List ℕ → Data → ExtensionData
-extension_with name d =
-    record {
-      name = name;
-      configuration = Some (member (codes "chunk_shape") d no_members);
-      must_understand = true;
-    }
-
 -- the extension point that describes a configuration
 abbrev pub extension_of_grid : GridConfiguration → ExtensionData
 extension_of_grid configuration =
-    extension_with (grid_name configuration) (shape_data configuration)
+    extension_with_member (grid_name configuration) (codes "chunk_shape") (shape_data configuration)

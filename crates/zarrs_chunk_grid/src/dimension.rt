@@ -4,7 +4,8 @@ ghost use Rattle.std.specs.Prelude.{IfOk, IfErr, OnOk, IfSome, IfNone};
 ghost use Rattle.std.specs.Option.{SomeIff};
 ghost use Rattle.std.specs.Int.NonZero.{non_zero_u64_get};
 ghost use Rattle.zarrs_chunk_grid.specs.Axes.{IsInterval, Covers, regular_axis, bounded_axis};
-ghost use Rattle.zarrs_chunk_grid.specs.Axes.{sizes_axis, sizes_of, ends_of_sizes};
+ghost use Rattle.zarrs_metadata_parts.specs.Lists.{sizes_of};
+ghost use Rattle.zarrs_chunk_grid.specs.Axes.{sizes_axis, ends_of_sizes};
 
 use crate::error::GridError;
 use crate::traits::Interval;

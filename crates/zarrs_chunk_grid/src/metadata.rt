@@ -3,12 +3,11 @@ ghost use Rattle.std.specs.Prelude.{◌≡◌, ◌∷◌, [], Some, map, option_
 ghost use Rattle.std.specs.Int.NonZero.{non_zero_u64_get};
 ghost use Rattle.serde_json.specs.View.{view};
 ghost use Rattle.zarrs_metadata_parts.specs.Extension.{extension_view, settings};
-ghost use Rattle.zarrs_metadata_parts.specs.Lists.{list_of, list_data, number_data};
+ghost use Rattle.zarrs_metadata_parts.specs.Lists.{list_of, list_data, number_data, sizes_of, size_said};
 ghost use Rattle.zarrs_metadata_parts.specs.Refusals.{RefusesMeaning};
-ghost use Rattle.zarrs_chunk_grid.specs.Axes.{sizes_of};
 ghost use Rattle.zarrs_chunk_grid.specs.Configurations.{regular, bounded, rectangular, sizes_view};
-ghost use Rattle.zarrs_chunk_grid.specs.Metadata.{extension_with, grid_said, only_chunk_shape};
-ghost use Rattle.zarrs_chunk_grid.specs.Metadata.{size_said, sizes_data, sizes_said};
+ghost use Rattle.zarrs_chunk_grid.specs.Metadata.{grid_said};
+ghost use Rattle.zarrs_chunk_grid.specs.Metadata.{sizes_data, sizes_said};
 ghost use Rattle.zarrs_chunk_grid.specs.GridView.{configuration_of, GridRead};
 ghost use Rattle.zarrs_chunk_grid.specs.Refusals.{KeepsMemory};
 
@@ -21,7 +20,7 @@ use crate::traits::{ChunkGridTraits, ChunkShape};
 use serde_json::Value;
 use std::alloc::{AllocError, Global};
 use std::num::NonZeroU64;
-use zarrs_metadata_parts::{MetadataV3, PluginCreateError};
+use zarrs_metadata_parts::{MetadataV3, PluginCreateError, size, sizes, sizes_value};
 use zarrs_subset::ArrayShape;
 
 const NO_SIZES: &str = "a `chunk_shape` is a list of sizes, whole numbers from 1 to 2^64 - 1";
@@ -46,7 +45,7 @@ impl ChunkGrid {
         ensures refused { IfErr result
             (RefusesMeaning (grid_said (extension_view metadata.now) array_shape.now)) }
     {
-        let Some(chunk_shape) = chunk_shape_member(metadata) else {
+        let Some(chunk_shape) = metadata.only_member("chunk_shape") else {
             return Err(PluginCreateError::other(
                 alloc,
                 "the configuration of a chunk grid is its `chunk_shape`",
@@ -62,17 +61,6 @@ impl ChunkGrid {
     }
 }
 
-// The one member of the configuration, if it is `chunk_shape`.
-fn chunk_shape_member(metadata: &MetadataV3) -> Option<&Value>
-    ensures { option_map (λ value. view value.now) result
-        ≡ only_chunk_shape (settings (extension_view metadata.now)) }
-{
-    if !metadata.has_only(&["chunk_shape"]) {
-        return None;
-    }
-    metadata.member("chunk_shape")
-}
-
 fn regular_from(
     alloc: Global,
     array_shape: ArrayShape,
@@ -81,7 +69,7 @@ fn regular_from(
     ensures { GridRead (option_map regular (list_of size_said (view chunk_shape.now)))
         array_shape.items result }
 {
-    let Some(sizes) = sizes_from(alloc, chunk_shape)? else {
+    let Some(sizes) = sizes(alloc, chunk_shape)? else {
         return Err(PluginCreateError::other(alloc, NO_SIZES));
     };
     match RegularChunkGrid::new(alloc, array_shape, sizes) {
@@ -98,7 +86,7 @@ fn bounded_from(
     ensures { GridRead (option_map bounded (list_of size_said (view chunk_shape.now)))
         array_shape.items result }
 {
-    let Some(sizes) = sizes_from(alloc, chunk_shape)? else {
+    let Some(sizes) = sizes(alloc, chunk_shape)? else {
         return Err(PluginCreateError::other(alloc, NO_SIZES));
     };
     match RegularBoundedChunkGrid::new(alloc, array_shape, sizes) {
@@ -141,30 +129,6 @@ fn refusal(alloc: Global, error: GridError) -> PluginCreateError
     }
 }
 
-// A whole number that is not 0.
-fn size_from(value: &Value) -> Option<NonZeroU64>
-    ensures { option_map non_zero_u64_get result ≡ size_said (view value.now) }
-{
-    NonZeroU64::new(value.as_u64()?)
-}
-
-fn sizes_from(alloc: Global, value: &Value) -> Result<Option<ChunkShape>, AllocError>
-    ensures { IfOk result (λ found. option_map (λ sizes. sizes_of sizes.items) found
-        ≡ list_of size_said (view value.now)) }
-{
-    let Some(items) = value.as_array() else {
-        return Ok(None);
-    };
-    let mut sizes = Vec::with_capacity(alloc, items.len())?;
-    for item in items {
-        match size_from(item) {
-            Some(size) => sizes.push(size)?,
-            None => return Ok(None),
-        }
-    }
-    Ok(Some(sizes))
-}
-
 fn dimensions_from(alloc: Global, value: &Value) -> Result<Option<Vec<ChunkSizes>>, AllocError>
     ensures { IfOk result (λ found. option_map (λ dimensions. map sizes_view dimensions.items) found
         ≡ list_of sizes_said (view value.now)) }
@@ -186,10 +150,10 @@ fn dimensions_from(alloc: Global, value: &Value) -> Result<Option<Vec<ChunkSizes
 fn dimension_from(alloc: Global, value: &Value) -> Result<Option<ChunkSizes>, AllocError>
     ensures { IfOk result (λ found. option_map sizes_view found ≡ sizes_said (view value.now)) }
 {
-    if let Some(size) = size_from(value) {
+    if let Some(size) = size(value) {
         return Ok(Some(ChunkSizes::Size(size)));
     }
-    let Some(sizes) = sizes_from(alloc, value)? else {
+    let Some(sizes) = sizes(alloc, value)? else {
         return Ok(None);
     };
     match SizeList::new(alloc, sizes) {
@@ -197,28 +161,6 @@ fn dimension_from(alloc: Global, value: &Value) -> Result<Option<ChunkSizes>, Al
         Err(GridError::OutOfMemory) => Err(AllocError),
         Err(_) => Ok(None),
     }
-}
-
-/// The extension point of this name whose configuration is this `chunk_shape`.
-pub(crate) fn grid_metadata(
-    alloc: Global,
-    name: &str,
-    chunk_shape: Value,
-) -> Result<MetadataV3, AllocError>
-    ensures { IfOk result (λ m. extension_view m ≡ extension_with name.now (view chunk_shape)) }
-{
-    MetadataV3::new(String::from_str(alloc, name)?).with_member(alloc, "chunk_shape", chunk_shape)
-}
-
-/// The list of these sizes.
-pub(crate) fn sizes_value(alloc: Global, sizes: &[NonZeroU64]) -> Result<Value, AllocError>
-    ensures { IfOk result (λ value. view value ≡ list_data number_data (sizes_of sizes.now)) }
-{
-    let mut values = Vec::with_capacity(alloc, sizes.len())?;
-    for size in sizes {
-        values.push_reserved(Value::from(size.get()));
-    }
-    Ok(Value::Array(values))
 }
 
 /// A size or a list of sizes for each dimension.

@@ -14,22 +14,18 @@ use Rattle.zarrs_codec_array.specs.ArrayCodecs.{array_codec_data}
 use Rattle.zarrs_codec_array.specs.Configurations.{ArrayCodecData, transpose, reshape, squeeze}
 use Rattle.zarrs_codec_array.specs.declared.array.ArrayToArrayCodec.{ArrayToArrayCodec}
 use Rattle.zarrs_codec_array.proofs.MetadataLaws.{array_codec_back}
-use Rattle.std.specs.Int.NonZero.{non_zero_u64_get}
 use Rattle.std.specs.Str.{bytes_eq}
 use Rattle.std.specs.declared.num.NonZeroU64.{NonZeroU64}
-use Rattle.std.proofs.lemmas.Bool.{ne_eqb}
-use Rattle.std.proofs.lemmas.Simd.{map-map}
-use Rattle.serde_json.specs.Data.{Data}
 use Rattle.serde_json.specs.View.{items_of}
-use Rattle.zarrs_metadata_parts.specs.Lists.{all_of, list_of, list_data, number_data}
-use Rattle.zarrs_metadata_parts.proofs.ListLemmas.{all_of-items_of}
+use Rattle.zarrs_metadata_parts.specs.Lists.{all_of, list_of, list_data, sizes_of}
+use Rattle.zarrs_metadata_parts.proofs.ListLemmas.{sizes_back}
 use Rattle.zarrs_codec_optional.specs.Metadata.{extension_of_cells_codec}
 use Rattle.zarrs_codec_optional.specs.CellsCodecs.{optional_codec_data}
 use Rattle.zarrs_codec_optional.specs.Configurations.{CellsCodecData, plain, optional}
 use Rattle.zarrs_codec_optional.specs.PlainCodecs.{bytes}
 use Rattle.zarrs_codec_optional.proofs.OptionalMetadata.{codec_again, cells_codec_back}
 use Rattle.zarrs_codec.specs.Chains.{is_at_start, bytes_codec_data}
-use Rattle.zarrs_codec_optional.specs.ShardingMetadata.{sizes_of, ShardingData, sharding_data, sharding_from, sharding_extension, size_said}
+use Rattle.zarrs_codec_optional.specs.ShardingMetadata.{ShardingData, sharding_data, sharding_from, sharding_extension}
 use Rattle.zarrs_codec.specs.declared.codec.ArrayToBytesCodec.{ArrayToBytesCodec}
 use Rattle.zarrs_codec.specs.declared.codec.ArrayToBytesCodec as code
 use Rattle.zarrs_codec.specs.Metadata.{bytes_codec_said, sharding_with, array_codecs_said, chain_of_parts, chain_said, last_of, extension_of_bytes_codec}
@@ -87,14 +83,6 @@ all_again [] c = ap (option_and_then (λ a. option_map (λ more. a ∷ more) (So
 all_again (x ∷ cs) c =
     ap (option_and_then (λ a. option_map (λ more. a ∷ more) (all_of extension_of (items_of (map extension_data (map extension_of_array_codec cs ++ extension_of_bytes_codec c ∷ [])))))) (array_again x)
     ∙ ap (option_map (λ more. extension_of_array_codec x ∷ more)) (all_again cs c)
-
-size_back : (size : NonZeroU64) → size_said (number_data size.value) ≡ Some size.value
-size_back size = let some = size.ok in rw (ne_eqb size.value 0 (λ z. absurd (omega arith))) refl
-
-sizes_back : (sizes : List NonZeroU64) → list_of size_said (list_data number_data (sizes_of sizes)) ≡ Some (sizes_of sizes)
-sizes_back sizes =
-    ap (λ (ds : List Data). all_of size_said (items_of ds)) (map-map number_data non_zero_u64_get sizes)
-    ∙ all_of-items_of size_said (λ (size : NonZeroU64). number_data size.value) non_zero_u64_get size_back sizes
 
 data_again : (sizes : List NonZeroU64) (at_start : Bool) (codecs : List ExtensionData) → list_of extension_of (list_data extension_data codecs) ≡ Some codecs
     → sharding_data (settings (sharding_extension (record { chunk_shape = sizes_of sizes; at_start = at_start; codecs = codecs }))) ≡ Some (record { chunk_shape = sizes_of sizes; at_start = at_start; codecs = codecs })

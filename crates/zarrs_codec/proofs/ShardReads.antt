@@ -1,5 +1,5 @@
 -- What is read of a shard, and why it is not.
-use Rattle.std.proofs.Common.{◌≡◌, ℕ, ◌+◌, ◌*◌, ◌<◌, ◌≤◌, ◌^◌, Bool, true, false, ◌&&◌, List, length, map, Option, None, Some, refl, sym, ap, ◌∙◌, subst, arith}
+use Rattle.std.proofs.Common.{◌≡◌, ℕ, ◌*◌, ◌<◌, ◌^◌, Bool, true, false, ◌&&◌, List, length, Option, None, Some, refl, sym, ap, ◌∙◌, subst, arith}
 use Rattle.std.proofs.Math.Nat.{mul-le-mul_right}
 use Rattle.std.specs.Prelude.{IfSome, option_map, slice_index_or}
 use Rattle.zarrs_data_type.specs.ArrayData.{ArrayData}
@@ -8,7 +8,7 @@ use Rattle.zarrs_data_type.specs.CellTypes.{filling, kind_of}
 use Rattle.zarrs_data_type.specs.Kind.{Kind, cell_size}
 use Rattle.zarrs_data_type_kinds.specs.declared.cell_type.CellType.{CellType}
 use Rattle.zarrs_codec_leaf.specs.declared.source.ByteSource.{Ghosts as SourceMeaning}
-use Rattle.zarrs_codec_shard.specs.Subchunks.{corner, is_cut_by}
+use Rattle.zarrs_codec_shard.specs.Subchunks.{is_cut_by}
 use Rattle.zarrs_subset.specs.Boxes.{position_count}
 use Rattle.zarrs_subset.specs.Regions.{Box, IsLong, box_at_origin, overlap_of, seen_from}
 use Rattle.zarrs_subset.proofs.Inside.{count_inside}
@@ -16,7 +16,6 @@ use Rattle.zarrs_codec_chain.specs.Chain.{ChainMeaning}
 use Rattle.zarrs_codec_chain.specs.Parts.{DecodesPart, DecodesPartAt}
 use Rattle.zarrs_codec_chain.specs.PartRefusals.{RefusesPartDecoding}
 use Rattle.zarrs_codec_chain.specs.Refusals.{IsTooLargeToDecode}
-use Rattle.zarrs_codec_chain.specs.ShardParts.{HasAllParts}
 use Rattle.zarrs_codec_chain.specs.ShardReads.{IsAt, IsOpen, IsShare, ShardRead, box_at, count_of, parts_of}
 use Rattle.zarrs_codec_chain.specs.Stored.{MayReadAll, MayReadOf, bytes_of, refuses_of}
 use Rattle.zarrs_codec_chain.specs.declared.error.PartError.{PartError}
@@ -25,9 +24,9 @@ use Rattle.zarrs_codec_chain.proofs.ReadSteps.{parts_len}
 use Rattle.zarrs_codec_chain.proofs.SubchunkSteps.{all_parts_decode, broken_shard, inner_refused, step_refused}
 use Rattle.zarrs_codec.specs.ChainLaws.{chain-lawful, sharded-lawful}
 use Rattle.zarrs_codec.specs.Chains.{chain_meaning, inner_chain_of}
-use Rattle.zarrs_codec.specs.ShardChunks.{HasParts, HasPieceOf, RefusesShard, RefusesReads, inner_decoded, shard_as, shard_decoded}
+use Rattle.zarrs_codec.specs.ShardChunks.{HasParts, HasPieceOf, RefusesShard, RefusesReads, shard_as, shard_decoded}
 use Rattle.zarrs_codec.specs.ShardPartsInto.{HasAllPartsAt, RefusesPiece}
-use Rattle.zarrs_codec.specs.Shardings.{ReadsLargeSubchunk, sharded, subchunk_meaning}
+use Rattle.zarrs_codec.specs.Shardings.{ReadsLargeSubchunk, subchunk_meaning}
 use Rattle.zarrs_codec.specs.declared.sharding.ShardingCodec.{ShardingCodec}
 use Rattle.zarrs_codec.proofs.PartReads.{large_piece, shard_too_large}
 use Rattle.zarrs_codec.proofs.Pieces.{piece_read}

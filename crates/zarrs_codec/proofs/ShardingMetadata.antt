@@ -6,7 +6,7 @@ use Rattle.std.specs.Str.{bytes_eq}
 use Rattle.serde_json.specs.Data.{Data, Items, no_items, item, Members, depth, items_depth}
 use Rattle.serde_json.specs.Find.{get_member, as_array}
 use Rattle.zarrs_metadata_parts.specs.Extension.{ExtensionData, settings, extension_of}
-use Rattle.zarrs_metadata_parts.specs.Lists.{all_of, list_of}
+use Rattle.zarrs_metadata_parts.specs.Lists.{all_of, list_of, size_said}
 use Rattle.zarrs_metadata_parts.specs.Members.{has_only}
 use Rattle.zarrs_data_type.specs.TypeMetadata.{levels_in}
 use Rattle.zarrs_data_type_kinds.proofs.TypeReading.{get_member-depth}
@@ -16,7 +16,7 @@ use Rattle.zarrs_codec_optional.specs.Metadata.{cells_codec_said}
 use Rattle.zarrs_codec_optional.proofs.OptionalMetadata.{extension_levels, array_depth, levels_of_member}
 use Rattle.zarrs_codec.specs.Metadata.{array_codecs_said, chain_of_parts, chain_said, front_of, last_of, sharding_with, bytes_codec_within, bytes_codec_said}
 use Rattle.zarrs_codec.specs.Configurations.{BytesCodecData, cells}
-use Rattle.zarrs_codec_optional.specs.ShardingMetadata.{ShardingData, sharding_data, sharding_from, sharding_names, location_said, size_said}
+use Rattle.zarrs_codec_optional.specs.ShardingMetadata.{ShardingData, sharding_data, sharding_from, sharding_names, location_said}
 
 -- ---- a codec in a configuration has fewer levels
 

@@ -1,5 +1,5 @@
 -- Reads of parts of shards into targets, one subchunk after another.
-use Rattle.std.proofs.Common.{◌≡◌, ℕ, zero, suc, ◌+◌, ◌-◌, ◌^◌, ◌<◌, ◌≤◌, max, min, map, Bool, true, false, ◌&&◌, ◌||◌, List, [], ◌∷◌, ◌++◌, length, take, slice_get, Option, None, Some, inl, inr, refl, sym, ap, ◌∙◌, subst, arith}
+use Rattle.std.proofs.Common.{◌≡◌, ℕ, ◌+◌, ◌-◌, ◌<◌, ◌≤◌, Bool, true, false, ◌&&◌, ◌||◌, List, [], ◌∷◌, ◌++◌, length, take, slice_get, Option, None, Some, inl, inr, refl, sym, ap, ◌∙◌, subst, arith}
 use Rattle.std.specs.Prelude.{slice_index, slice_index_or, nat_eq}
 use Rattle.std.specs.Cmp.Lexicographic.{pointwise, same_text}
 use Rattle.std.proofs.lemmas.Bool.{and_from, cases_Bool, eq-eqb, false≢true}
@@ -13,7 +13,7 @@ use Rattle.zarrs_codec_shard.specs.Subchunks.{corner, is_cut_by, quotients, rema
 use Rattle.zarrs_codec_shard.proofs.Cuts.{position_divided}
 use Rattle.zarrs_codec_shard.proofs.SubchunkBoxes.{only_own, place_in_chunk}
 use Rattle.zarrs_subset.specs.Boxes.{InShape, offset_by, offset_from, place, position_count}
-use Rattle.zarrs_subset.specs.Regions.{Box, Holds, IsLong, LiesInShape, box_at_origin, box_from, cell_in, in_box, overlap_of, place_in, positions, seen_from}
+use Rattle.zarrs_subset.specs.Regions.{Box, Holds, IsLong, LiesInShape, box_at_origin, box_from, cell_in, in_box, place_in, positions, seen_from}
 use Rattle.zarrs_subset.proofs.Bytes.{holds_along}
 use Rattle.zarrs_data_type.specs.Targets.{KeepsOutside}
 use Rattle.zarrs_data_type.specs.Cell.{Cell, is_value}

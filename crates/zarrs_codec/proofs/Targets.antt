@@ -1,5 +1,5 @@
 -- Targets that are written one piece after another.
-use Rattle.std.proofs.Common.{◌≡◌, ◌∙◌, List, ℕ, ap, false, refl, true, subst, sym}
+use Rattle.std.proofs.Common.{◌≡◌, List, ℕ, ap, false, refl, true, subst, sym}
 use Rattle.zarrs_data_type.specs.CellTypes.{filling, kind_of}
 use Rattle.zarrs_data_type.specs.Kind.{Kind}
 use Rattle.zarrs_data_type.specs.States.{KeepsBut, KeepsTarget, data_of_target, parent_box, target_box}

@@ -27,7 +27,7 @@ use Rattle.zarrs_codec.specs.declared.codec.ArrayToBytesCodec.{ArrayToBytesCodec
 use Rattle.zarrs_codec.specs.declared.codec.ArrayToBytesCodec as codec
 use Rattle.zarrs_codec.specs.declared.chain.CodecChain.{CodecChain}
 use Rattle.zarrs_codec_chain.specs.Chain.{ChainMeaning, IsLawfulChain, chunk_cells}
-use Rattle.zarrs_codec_optional.specs.ShardingMetadata.{sizes_of}
+use Rattle.zarrs_metadata_parts.specs.Lists.{sizes_of}
 use Rattle.zarrs_codec.specs.Chains.{array_to_array_of, array_to_bytes_of, behind, bytes_codec_data}
 use Rattle.zarrs_codec.specs.Chains.{codec_meaning, is_at_start, leaf_meaning, chain_meaning, no_codec}
 use Rattle.zarrs_codec.specs.Configurations.{BytesCodecData, cells_meaning_of, no_cells, whole_chunk, with_places}

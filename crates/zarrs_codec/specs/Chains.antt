@@ -10,7 +10,7 @@ use Rattle.zarrs_codec_leaf.specs.Leaf.{LeafMeaning}
 use Rattle.zarrs_codec_optional.specs.CellsCodecs.{optional_codec_data}
 use Rattle.zarrs_codec_optional.specs.Configurations.{plain}
 use Rattle.zarrs_codec_optional.specs.PlainCodecs.{bytes, packbits, vlen_utf8, vlen_bytes, vlen}
-use Rattle.zarrs_codec_optional.specs.ShardingMetadata.{sizes_of}
+use Rattle.zarrs_metadata_parts.specs.Lists.{sizes_of}
 use Rattle.zarrs_codec.specs.declared.codec.ArrayToBytesCodec.{ArrayToBytesCodec}
 use Rattle.zarrs_codec.specs.declared.codec.ArrayToBytesCodec as codec
 use Rattle.zarrs_codec.specs.declared.chain.BytesToBytesCodecs.{BytesToBytesCodecs}

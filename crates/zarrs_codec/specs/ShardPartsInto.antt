@@ -1,5 +1,5 @@
 -- What a read of a part of a shard into a target has there after some of its subchunks.
-use Rattle.std.specs.Prelude.{◌≡◌, ℕ, Bool, true, Option, None, Some, option_map, List, ◌∷◌, [], ◌++◌}
+use Rattle.std.specs.Prelude.{◌≡◌, ℕ, true, Option, None, Some, option_map, List, ◌∷◌, [], ◌++◌}
 use Rattle.zarrs_data_type.specs.ArrayData.{ArrayData}
 use Rattle.zarrs_data_type.specs.Cells.{cell_at}
 use Rattle.zarrs_codec_leaf.specs.declared.error.CodecError.TheVariants as codec

@@ -2,7 +2,7 @@
 use Rattle.std.specs.Prelude.{ℕ, Bool, List, map}
 use Rattle.zarrs_codec_array.specs.ArrayCodecs.{array_codec_data}
 use Rattle.zarrs_codec_array.specs.Configurations.{ArrayCodecData}
-use Rattle.zarrs_codec_optional.specs.ShardingMetadata.{sizes_of}
+use Rattle.zarrs_metadata_parts.specs.Lists.{sizes_of}
 use Rattle.zarrs_codec.specs.Chains.{is_at_start, bytes_codec_data}
 use Rattle.zarrs_codec.specs.Configurations.{BytesCodecData, sharding}
 use Rattle.zarrs_codec.specs.declared.sharding_builder.ShardingCodecBuilder.{ShardingCodecBuilder}

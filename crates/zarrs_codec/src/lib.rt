@@ -27,7 +27,7 @@ mod sizes;
 
 pub use chain::{BytesToBytesCodecs, CodecChain};
 pub use codec::ArrayToBytesCodec;
-pub use metadata::default_array_to_bytes_codec;
+pub use metadata::{copied_array_codecs, default_array_to_bytes_codec};
 pub use sharding::{ShardingCodec, ShardingIndexLocation};
 pub use sharding_builder::ShardingCodecBuilder;
 pub use zarrs_codec_array::{

@@ -328,7 +328,11 @@ fn array_codec_metadatas(
     Ok(made)
 }
 
-pub(crate) fn copied_array_codecs(
+/// Returns a copy of the codecs.
+///
+/// # Errors
+/// `AllocError`: out of memory.
+pub fn copied_array_codecs(
     alloc: Global,
     codecs: &[ArrayToArrayCodec],
 ) -> Result<Vec<ArrayToArrayCodec>, AllocError>

@@ -277,8 +277,7 @@ impl ShardingCodec {
         };
         let Piece { shared, cells } = piece;
         let data_type = &cell_type.data_type;
-        let made = held.with_owned_part(alloc, data_type, read.part, cells, &shared)?;
-        Ok(made)
+        Ok(held.with_owned_part(alloc, data_type, read.part, cells, &shared)?)
     }
 
     /// The cells that the subchunk with these indices has of a part of its shard, or `None` if the subchunk is absent or

@@ -1,7 +1,7 @@
 //! The codec `sharding_indexed`.
 ghost use Rattle.std.specs.Prelude.{◌≡◌, IfOk};
 ghost use Rattle.zarrs_codec.specs.Chains.{inner_chain_of, is_at_start, location_of, subchunk_sizes_of};
-ghost use Rattle.zarrs_codec_optional.specs.ShardingMetadata.{sizes_of};
+ghost use Rattle.zarrs_metadata_parts.specs.Lists.{sizes_of};
 
 use crate::chain::CodecChain;
 use std::alloc::{AllocError, Global};

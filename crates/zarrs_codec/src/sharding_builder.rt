@@ -2,7 +2,7 @@
 ghost use Rattle.std.specs.Prelude.{◌≡◌, [], map, IfOk};
 ghost use Rattle.zarrs_data_type.specs.Kind.{kind};
 ghost use Rattle.zarrs_codec_array.specs.ArrayCodecs.{array_codec_data};
-ghost use Rattle.zarrs_codec_optional.specs.ShardingMetadata.{sizes_of};
+ghost use Rattle.zarrs_metadata_parts.specs.Lists.{sizes_of};
 ghost use Rattle.zarrs_codec.specs.Chains.{is_at_start, bytes_codec_data, sharding_data_of};
 ghost use Rattle.zarrs_codec.specs.Metadata.{default_codec};
 ghost use Rattle.zarrs_codec.specs.ShardingBuilders.{built_data, builder_view};

@@ -6,11 +6,11 @@ use Rattle.std.proofs.lemmas.Simd.{map-map}
 use Rattle.serde_json.specs.Data.{Data}
 use Rattle.serde_json.specs.View.{items_of}
 use Rattle.zarrs_metadata_parts.specs.Lists.{all_of, list_of, list_data}
-use Rattle.zarrs_metadata_parts.specs.Extension.{ExtensionData}
+use Rattle.zarrs_metadata_parts.specs.Extension.{ExtensionData, extension_with_member}
 use Rattle.zarrs_metadata_parts.proofs.ListLemmas.{all_of-items_of, numbers_of-numbers_data}
 use Rattle.zarrs_codec_array.specs.Arrays.{product_of}
 use Rattle.zarrs_codec_array.specs.Extents.{extent_view, extents_view}
-use Rattle.zarrs_codec_array.specs.Metadata.{extent_said, extent_data, transpose_of, reshape_of, array_codec_said, with_one_member, extension_of_array_codec}
+use Rattle.zarrs_codec_array.specs.Metadata.{extent_said, extent_data, transpose_of, reshape_of, array_codec_said, extension_of_array_codec}
 use Rattle.zarrs_codec_array.specs.ArrayCodecs.{array_codec_data}
 use Rattle.zarrs_codec_array.specs.Reshape.{entries_of}
 use Rattle.zarrs_codec_array.specs.declared.array.ArrayToArrayCodec.{ArrayToArrayCodec}
@@ -36,7 +36,7 @@ array_codec_back (code.Squeeze s) = refl
 
 -- the metadata of a codec `reshape`, made of the value of its entries
 pub reshape_written : (self : ArrayToArrayCodec) (r : ReshapeCodec) (es : List ReshapeExtent) (d : Data) (m : ExtensionData) → self ≡ code.Reshape r → extents_view es ≡ entries_of r
-    → d ≡ list_data extent_data (extents_view es) → m ≡ with_one_member (codes "reshape") (codes "shape") d → array_codec_said m ≡ Some (array_codec_data self)
+    → d ≡ list_data extent_data (extents_view es) → m ≡ extension_with_member (codes "reshape") (codes "shape") d → array_codec_said m ≡ Some (array_codec_data self)
 reshape_written self r es d m is entries value written =
-    ap array_codec_said (written ∙ ap (with_one_member (codes "reshape") (codes "shape")) (value ∙ ap (list_data extent_data) entries))
+    ap array_codec_said (written ∙ ap (extension_with_member (codes "reshape") (codes "shape")) (value ∙ ap (list_data extent_data) entries))
     ∙ array_codec_back (code.Reshape r) ∙ ap (λ x. Some (array_codec_data x)) (sym is)

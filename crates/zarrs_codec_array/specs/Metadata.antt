@@ -1,13 +1,13 @@
 -- The metadata of codecs that make an array of an array: what is read from it, and what is written for one.
-use Rattle.std.specs.Prelude.{ℕ, ℤ, negsuc, List, [], ◌∷◌, true, ◌==◌, ◌||◌, codes, if◌then◌else◌, Option, Some, None}
+use Rattle.std.specs.Prelude.{ℕ, ℤ, negsuc, List, [], ◌||◌, codes, if◌then◌else◌, Option, Some, None}
 use Rattle.std.specs.Prelude.{option_map, option_and_then}
 use Rattle.std.specs.Option.{option_or}
 use Rattle.std.specs.Ordering.{int_eq}
 use Rattle.std.specs.Str.{bytes_eq}
-use Rattle.serde_json.specs.Data.{Data, number, negative, Members, no_members, member}
-use Rattle.serde_json.specs.Find.{get_member, as_number, as_i64}
-use Rattle.zarrs_metadata_parts.specs.Extension.{ExtensionData, settings, named}
-use Rattle.zarrs_metadata_parts.specs.Lists.{list_of, list_data, number_of, number_data, numbers_of, numbers_data}
+use Rattle.serde_json.specs.Data.{Data, number, negative, Members}
+use Rattle.serde_json.specs.Find.{as_number, as_i64}
+use Rattle.zarrs_metadata_parts.specs.Extension.{ExtensionData, settings, named, only_member, extension_with_member}
+use Rattle.zarrs_metadata_parts.specs.Lists.{list_of, list_data, number_data, numbers_of, numbers_data, size_said}
 use Rattle.zarrs_metadata_parts.specs.Members.{has_only}
 use Rattle.zarrs_codec_array.specs.Arrays.{Extent, size, product_of, rest}
 use Rattle.zarrs_codec_array.specs.Configurations.{ArrayCodecData, transpose, reshape, squeeze}
@@ -16,14 +16,6 @@ use Rattle.zarrs_codec_array.specs.Orders.{is_order}
 
 -- ---- what metadata says
 
--- the one member of a configuration, if it has this name
-abbrev pub only_member : List ℕ → Members → Option Data
-only_member name ms = if has_only (name ∷ []) ms then get_member name ms else None
-
--- a size is above 0
-abbrev pub extent_of_number : ℕ → Option Extent
-extent_of_number n = if n == 0 then None else Some (size n)
-
 -- -1 is what is left
 abbrev pub rest_of : ℤ → Option Extent
 rest_of z = if int_eq z (negsuc 0) then Some rest else None
@@ -31,7 +23,7 @@ rest_of z = if int_eq z (negsuc 0) then Some rest else None
 -- a size, -1, or a list of dimensions
 abbrev pub extent_said : Data → Option Extent
 extent_said d =
-    option_or (option_and_then extent_of_number (number_of d))
+    option_or (option_map size (size_said d))
     (option_or (option_and_then rest_of (option_and_then as_i64 (as_number d))) (option_map product_of (numbers_of d)))
 
 abbrev pub transpose_of : List ℕ → Option ArrayCodecData
@@ -71,12 +63,8 @@ extent_data (size n) = number_data n
 extent_data (product_of dimensions) = numbers_data dimensions
 extent_data rest = number (negative (negsuc 0))
 
--- an extension point of this name, whose configuration is this member
-abbrev pub with_one_member : List ℕ → List ℕ → Data → ExtensionData
-with_one_member name key d = record { name = name; configuration = Some (member key d no_members); must_understand = true }
-
 -- the metadata of a codec
 abbrev pub extension_of_array_codec : ArrayCodecData → ExtensionData
-extension_of_array_codec (transpose order) = with_one_member (codes "transpose") (codes "order") (numbers_data order)
-extension_of_array_codec (reshape entries) = with_one_member (codes "reshape") (codes "shape") (list_data extent_data entries)
+extension_of_array_codec (transpose order) = extension_with_member (codes "transpose") (codes "order") (numbers_data order)
+extension_of_array_codec (reshape entries) = extension_with_member (codes "reshape") (codes "shape") (list_data extent_data entries)
 extension_of_array_codec squeeze = named (codes "squeeze")

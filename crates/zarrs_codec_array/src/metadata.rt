@@ -9,11 +9,11 @@ ghost use Rattle.zarrs_metadata_parts.specs.Lists.{list_of, list_data, number_of
 ghost use Rattle.zarrs_metadata_parts.specs.Refusals.{RefusesMeaning};
 ghost use Rattle.zarrs_codec_array.specs.Arrays.{size, rest};
 ghost use Rattle.zarrs_codec_array.specs.Extents.{extent_view, extents_view};
-ghost use Rattle.zarrs_codec_array.specs.Metadata.{only_member, extent_of_number, rest_of};
+ghost use Rattle.zarrs_codec_array.specs.Metadata.{rest_of};
 ghost use Rattle.zarrs_codec_array.specs.ArrayCodecs.{array_codec_data};
 ghost use Rattle.zarrs_codec_array.specs.Metadata.{extent_said, extent_data, transpose_said};
 ghost use Rattle.zarrs_codec_array.specs.Metadata.{reshape_said, squeeze_said, array_codec_said};
-ghost use Rattle.zarrs_codec_array.specs.Metadata.{with_one_member, extension_of_array_codec};
+ghost use Rattle.zarrs_codec_array.specs.Metadata.{extension_of_array_codec};
 
 use crate::array::ArrayToArrayCodec;
 use crate::reshape::{ReshapeCodec, ReshapeExtent};
@@ -22,7 +22,7 @@ use crate::transpose::TransposeCodec;
 use serde_json::Value;
 use std::alloc::{AllocError, Global};
 use std::num::NonZeroU64;
-use zarrs_metadata_parts::{MetadataV3, PluginCreateError, numbers, numbers_value};
+use zarrs_metadata_parts::{MetadataV3, PluginCreateError, numbers, numbers_value, size};
 
 impl ArrayToArrayCodec {
     /// Reads the codec that metadata says: `transpose` with its `order`, `reshape` (also `zarrs.reshape`) with its
@@ -64,11 +64,11 @@ impl ArrayToArrayCodec {
         match self {
             ArrayToArrayCodec::Transpose(codec) => {
                 let order = numbers_value(alloc, codec.order())?;
-                with_member(alloc, "transpose", "order", order)
+                MetadataV3::with_one_member(alloc, "transpose", "order", order)
             }
             ArrayToArrayCodec::Reshape(codec) => {
                 let shape = extents_value(alloc, codec.entries())?;
-                with_member(alloc, "reshape", "shape", shape)
+                MetadataV3::with_one_member(alloc, "reshape", "shape", shape)
             }
             ArrayToArrayCodec::Squeeze(_) => {
                 Ok(MetadataV3::new(String::from_str(alloc, "squeeze")?))
@@ -97,7 +97,7 @@ fn transpose_from(
     ensures { IfOk result (λ codec. option_map array_codec_data codec
         ≡ transpose_said (settings (extension_view metadata.now))) }
 {
-    let Some(value) = only_member(metadata, "order") else {
+    let Some(value) = metadata.only_member("order") else {
         return Ok(None);
     };
     let Some(order) = numbers(alloc, value)? else {
@@ -113,7 +113,7 @@ fn reshape_from(
     ensures { IfOk result (λ codec. option_map array_codec_data codec
         ≡ reshape_said (settings (extension_view metadata.now))) }
 {
-    let Some(value) = only_member(metadata, "shape") else {
+    let Some(value) = metadata.only_member("shape") else {
         return Ok(None);
     };
     let Some(entries) = extents_from(alloc, value)? else {
@@ -128,17 +128,6 @@ fn squeeze_from(metadata: &MetadataV3) -> Option<ArrayToArrayCodec>
 {
     let codec = ArrayToArrayCodec::Squeeze(SqueezeCodec);
     metadata.has_only(&[]).then_some(codec)
-}
-
-/// Returns the one member of the configuration, if it has this name.
-fn only_member<'a>(metadata: &'a MetadataV3, name: &str) -> Option<&'a Value>
-    ensures { option_map (λ value. view value.now) result
-        ≡ only_member name.now (settings (extension_view metadata.now)) }
-{
-    if !metadata.has_only(&[name]) {
-        return None;
-    }
-    metadata.member(name)
 }
 
 fn extents_from(alloc: Global, value: &Value) -> Result<Option<Vec<ReshapeExtent>>, AllocError>
@@ -162,7 +151,7 @@ fn extents_from(alloc: Global, value: &Value) -> Result<Option<Vec<ReshapeExtent
 fn extent_from(alloc: Global, value: &Value) -> Result<Option<ReshapeExtent>, AllocError>
     ensures { IfOk result (λ found. option_map extent_view found ≡ extent_said (view value.now)) }
 {
-    if let Some(size) = size_from(value) {
+    if let Some(size) = size(value) {
         return Ok(Some(ReshapeExtent::Size(size)));
     }
     if is_minus_one(value) {
@@ -171,25 +160,11 @@ fn extent_from(alloc: Global, value: &Value) -> Result<Option<ReshapeExtent>, Al
     Ok(numbers(alloc, value)?.map(ReshapeExtent::ProductOf))
 }
 
-fn size_from(value: &Value) -> Option<NonZeroU64>
-    ensures { option_map (λ n. size (non_zero_u64_get n)) result
-        ≡ option_and_then extent_of_number (number_of (view value.now)) }
-{
-    NonZeroU64::new(value.as_u64()?)
-}
-
 fn is_minus_one(value: &Value) -> bool
     ensures { (if result then Some rest else None)
         ≡ option_and_then rest_of (option_and_then as_i64 (as_number (view value.now))) }
 {
     value.as_i64() == Some(-1)
-}
-
-/// Returns the metadata of this name, whose configuration is this member.
-fn with_member(alloc: Global, name: &str, key: &str, value: Value) -> Result<MetadataV3, AllocError>
-    ensures { IfOk result (λ m. extension_view m ≡ with_one_member name.now key.now (view value)) }
-{
-    MetadataV3::new(String::from_str(alloc, name)?).with_member(alloc, key, value)
 }
 
 fn extents_value(alloc: Global, entries: &[ReshapeExtent]) -> Result<Value, AllocError>

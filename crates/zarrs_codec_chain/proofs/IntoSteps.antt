@@ -1,19 +1,15 @@
 -- A shard in a target, one subchunk after another.
-use Rattle.std.proofs.Common.{◌≡◌, ℕ, zero, suc, ◌+◌, ◌-◌, ◌^◌, ◌<◌, Bool, true, false, cond, List, [], ◌∷◌, length, map, replicate, get_or, slice_get, Option, None, Some, inl, inr, refl, sym, ap, ◌∙◌, subst, arith}
+use Rattle.std.proofs.Common.{◌≡◌, ℕ, ◌+◌, ◌-◌, ◌^◌, ◌<◌, Bool, true, false, cond, List, [], ◌∷◌, length, replicate, slice_get, Option, None, Some, inl, inr, refl, sym, ap, ◌∙◌, subst, arith}
 use Rattle.std.specs.Prelude.{slice_index, slice_index_or}
-use Rattle.std.proofs.lemmas.Bool.{and_from, cases_lt, false≢true}
+use Rattle.std.proofs.lemmas.Bool.{cases_lt, false≢true}
 use Rattle.std.proofs.lemmas.List.{get_or-replicate, length-replicate}
-use Rattle.std.proofs.lemmas.List.Sums.{AllPass-from_list_all, list_all-from_AllPass}
 use Rattle.zarrs_data_type.specs.ArrayData.{ArrayData}
 use Rattle.zarrs_data_type.specs.Cells.{cell_at}
-use Rattle.zarrs_metadata_parts.specs.Extension.{◌>>=◌}
-use Rattle.zarrs_codec_shard.specs.Sharded.{SubchunkMeaning, cells_of_part, cells_of_parts, sharded_decoded, sharded_fits}
+use Rattle.zarrs_codec_shard.specs.Sharded.{SubchunkMeaning, cells_of_part, sharded_decoded}
 use Rattle.zarrs_codec_shard.specs.Shards.{shard_parts}
-use Rattle.zarrs_codec_shard.specs.Steps.{all_present}
 use Rattle.zarrs_codec_shard.specs.Subchunks.{assembled, corner, is_cut_by, quotients, remainders, subchunk_box, subchunk_count}
 use Rattle.zarrs_codec_shard.proofs.Cuts.{position_divided}
 use Rattle.zarrs_codec_shard.proofs.Grids.{corner_long}
-use Rattle.zarrs_codec_shard.proofs.Missing.{all_present-cons, given_if-true}
 use Rattle.zarrs_codec_shard.proofs.ShardLaws.{length-shard_parts}
 use Rattle.zarrs_codec_shard.proofs.SubchunkBoxes.{lies_in_chunk, long_corner, only_own}
 use Rattle.zarrs_subset.specs.Boxes.{position_count, InShape, place, unravel, offset_by, offset_from, zip_with}
@@ -23,11 +19,10 @@ use Rattle.zarrs_subset.proofs.Kernel.{place_below}
 use Rattle.zarrs_subset.proofs.Overlaps.{length-zip_with}
 use Rattle.zarrs_subset.proofs.Parts.{zip_with-at}
 use Rattle.zarrs_subset.proofs.Positions.{offset_by-from, offset_from-in, place-unravel, unravel-place, unravel_in}
-use Rattle.zarrs_subset.proofs.RearrangedCells.{get_or-made_of, length-made_of}
 use Rattle.zarrs_subset.proofs.Shifts.{holds-shifted, part_in_chunk}
 use Rattle.zarrs_data_type.specs.Targets.{FillsBox, KeepsOutside}
 use Rattle.zarrs_data_type_region.proofs.TargetBoxes.{lies_at_origin, origin_long}
-use Rattle.zarrs_data_type.specs.Cell.{Cell, are_values, is_value, none, values_only}
+use Rattle.zarrs_data_type.specs.Cell.{Cell, are_values, is_value, none}
 use Rattle.zarrs_data_type.specs.Kind.{Kind, fixed_size}
 use Rattle.zarrs_subset.proofs.Inside.{holds_inside}
 use Rattle.zarrs_codec_chain.specs.Parts.{DecodesInto}
@@ -35,7 +30,7 @@ use Rattle.zarrs_codec_chain.specs.ShardInto.{DecodesPartInto}
 use Rattle.zarrs_codec_chain.specs.ShardParts.{DecodesAs, IsCellOf}
 use Rattle.zarrs_codec_chain.proofs.AllDecode.{all_there, whole_of}
 use Rattle.zarrs_codec_chain.proofs.Stays.{cell_stays}
-use Rattle.zarrs_codec_chain.proofs.SubchunkSteps.{cell_of_whole, length-offset_from, own_holds, own_place, part_at}
+use Rattle.zarrs_codec_chain.proofs.SubchunkSteps.{cell_of_whole, length-offset_from, own_holds, own_place}
 use Rattle.zarrs_data_type_bytes.proofs.FixedSizes.{some_is}
 
 -- ---- boxes of subchunks in an array

@@ -1,13 +1,13 @@
 -- A shard whose index was tested.
-use Rattle.std.proofs.Common.{Bool, true, false, Option, None, Some, ◌*◌, ◌+◌, ◌-◌, ◌<◌, ◌≤◌, ◌^◌, ◌≡◌, ◌∙◌, List, ℕ, ap, sym, drop, take, length, arith}
+use Rattle.std.proofs.Common.{Bool, true, false, Option, None, Some, ◌+◌, ◌-◌, ◌<◌, ◌≤◌, ◌^◌, ◌≡◌, ◌∙◌, List, ℕ, ap, sym, drop, take, length, arith}
 use Rattle.std.specs.Prelude.{slice_index_or, slice_range}
 use Rattle.std.proofs.lemmas.List.{drop-drop, drop-take, take-take}
 use Rattle.zarrs_codec_leaf.specs.declared.source.ByteSource.{Ghosts as SourceMeaning}
 use Rattle.zarrs_codec_leaf.specs.Sources.{bytes_in}
 use Rattle.zarrs_codec_shard.specs.declared.shard_index.SubchunkRange.{SubchunkRange}
 use Rattle.zarrs_codec_shard.specs.ShardIndex.{IsRangeWithin}
-use Rattle.zarrs_codec_shard.specs.Shards.{data_end, data_start, index_in, named_part}
-use Rattle.zarrs_subset.specs.Boxes.{place, unravel}
+use Rattle.zarrs_codec_shard.specs.Shards.{data_end, index_in, named_part}
+use Rattle.zarrs_subset.specs.Boxes.{unravel}
 use Rattle.zarrs_subset.specs.Pieces.{piece_at}
 use Rattle.zarrs_subset.proofs.Positions.{place-unravel, unravel_in}
 use Rattle.zarrs_codec_shard.specs.Subchunks.{quotients}

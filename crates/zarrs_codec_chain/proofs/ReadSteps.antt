@@ -1,18 +1,18 @@
 -- The steps of a read of one subchunk.
-use Rattle.std.proofs.Common.{◌≡◌, ℕ, ◌+◌, ◌-◌, ◌*◌, ◌^◌, ◌<◌, ◌≤◌, Bool, true, false, ◌&&◌, ◌||◌, List, [], ◌∷◌, ◌++◌, length, map, take, drop, get_or, Option, None, Some, refl, sym, ap, ◌∙◌, subst, arith}
-use Rattle.std.specs.Prelude.{is_some, nat_le, nat_lt, slice_index, slice_index_or, slice_range, unwrap_or}
+use Rattle.std.proofs.Common.{◌≡◌, ℕ, ◌+◌, ◌-◌, ◌*◌, ◌^◌, ◌<◌, ◌≤◌, Bool, true, false, ◌&&◌, ◌||◌, List, [], length, map, get_or, Option, None, Some, refl, sym, ap, ◌∙◌, subst, arith}
+use Rattle.std.specs.Prelude.{is_some, nat_le, nat_lt, slice_index, slice_index_or, unwrap_or}
 use Rattle.std.specs.List.{list_any, range_with_len}
 use Rattle.std.proofs.lemmas.Bool.{and_from, false≢true, leb-true, lt-ltb}
 use Rattle.std.proofs.lemmas.List.{get_or-map, length-map}
 use Rattle.std.proofs.lemmas.List.FromFn.{get_or-map-range_with_len, get_or-range_with_len, length-range_with_len}
 use Rattle.zarrs_data_type.specs.ArrayData.{ArrayData}
 use Rattle.zarrs_codec_shard.specs.declared.shard_index.SubchunkRange.{SubchunkRange}
-use Rattle.zarrs_codec_shard.specs.ShardIndex.{IsRangeWithin, range_entry, range_part}
+use Rattle.zarrs_codec_shard.specs.ShardIndex.{IsRangeWithin, range_entry}
 use Rattle.zarrs_codec_shard.specs.Shards.{data_end, data_start, index_in, named_part, shard_parts}
 use Rattle.zarrs_codec_shard.specs.Steps.{all_present}
-use Rattle.zarrs_codec_shard.specs.Subchunks.{corner, is_cut_by, quotients, subchunk_box, subchunk_count}
+use Rattle.zarrs_codec_shard.specs.Subchunks.{corner, quotients}
 use Rattle.zarrs_codec_shard.proofs.Cuts.{position_divided}
-use Rattle.zarrs_codec_shard.proofs.Missing.{all_present-at, given_if-parts, length-all_present}
+use Rattle.zarrs_codec_shard.proofs.Missing.{all_present-at, given_if-parts}
 use Rattle.zarrs_codec_shard.proofs.ShardLaws.{length-shard_parts}
 use Rattle.zarrs_data_type_bytes.proofs.Pieces.{length-pieces}
 use Rattle.zarrs_codec_shard.proofs.SubchunkBoxes.{long_corner}
@@ -25,7 +25,7 @@ use Rattle.zarrs_subset.proofs.Positions.{unravel_in}
 use Rattle.zarrs_data_type.specs.Cell.{Cell}
 use Rattle.zarrs_data_type.specs.Kind.{Kind}
 use Rattle.zarrs_codec_chain.specs.Places.{boxes_meet, is_index_place, is_range_place}
-use Rattle.zarrs_codec_chain.specs.ShardParts.{HasSubchunkParts, ReadsSubchunk}
+use Rattle.zarrs_codec_chain.specs.ShardParts.{ReadsSubchunk}
 use Rattle.zarrs_codec_chain.specs.ShardReads.{HasNoSubchunk, HasNone, IsAt, IsOpen, IsShare, IsSole, ShardRead, box_at, count_of, entry_of, part_places, parts_of}
 use Rattle.zarrs_codec_chain.proofs.MovedBoxes.{in_overlap, overlap_within}
 use Rattle.zarrs_codec_chain.proofs.PartBoxes.{part_fits, within_shape}

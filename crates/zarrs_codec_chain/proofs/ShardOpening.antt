@@ -5,11 +5,10 @@ use Rattle.std.specs.List.{list_any, range_with_len}
 use Rattle.std.proofs.lemmas.Bool.{and_from, le-leb, lt-leb, lt-ltb}
 use Rattle.std.proofs.lemmas.List.{length-drop, length-take-le, take_all}
 use Rattle.zarrs_codec_shard.specs.Shards.{data_end, data_start, index_in, named_part, shard_parts}
-use Rattle.zarrs_codec_shard.specs.Sharded.{SubchunkMeaning, cells_of_parts, sharded_fits}
+use Rattle.zarrs_codec_shard.specs.Sharded.{cells_of_parts, sharded_fits}
 use Rattle.zarrs_codec_shard.specs.Steps.{all_present, given_if}
 use Rattle.zarrs_codec_shard.specs.Subchunks.{is_cut_by, subchunk_count}
 use Rattle.zarrs_codec_shard.proofs.Missing.{given_if-false, given_if-true}
-use Rattle.zarrs_data_type.specs.Cell.{Cell}
 use Rattle.zarrs_metadata_parts.specs.Extension.{◌>>=◌}
 use Rattle.zarrs_subset.specs.Pieces.{piece_at, pieces}
 use Rattle.zarrs_codec_chain.specs.Places.{boxes_meet, is_index_place, is_range_place}

@@ -1,33 +1,30 @@
 -- The piece of a subchunk that a part of its shard meets.
-use Rattle.std.proofs.Common.{◌≡◌, ℕ, zero, suc, ◌+◌, ◌-◌, ◌*◌, ◌/◌, ◌^◌, ◌<◌, ◌≤◌, max, min, Bool, true, false, eqb, ◌&&◌, ◌||◌, List, [], ◌∷◌, ◌++◌, length, map, take, drop, get_or, Option, None, Some, inl, inr, refl, sym, ap, ◌∙◌, subst, arith}
-use Rattle.std.specs.Prelude.{slice_index, slice_index_or, slice_range, nat_le, nat_lt, not, All}
-use Rattle.std.specs.List.{flat_map, list_any, range_with_len}
+use Rattle.std.proofs.Common.{◌≡◌, ℕ, zero, suc, ◌+◌, ◌-◌, ◌*◌, ◌/◌, ◌^◌, ◌<◌, ◌≤◌, max, min, Bool, true, false, eqb, ◌&&◌, ◌||◌, List, [], ◌∷◌, ◌++◌, length, drop, get_or, Some, inl, inr, refl, sym, ap, ◌∙◌, subst, arith}
+use Rattle.std.specs.Prelude.{slice_index, nat_le, nat_lt, not}
+use Rattle.std.specs.List.{list_any}
 use Rattle.std.specs.Int.{w64, from_le_bytes}
 use Rattle.std.proofs.Math.Seq.{get_or-append_seam}
 use Rattle.std.proofs.Math.Nat.{add-mul, div-eq_of_lt-le, div-lt_iff_lt-mul, div-mul-le_self}
 use Rattle.std.proofs.lemmas.Bool.{and_from, cases_lt, le-leb, lt-ltb}
 use Rattle.std.proofs.lemmas.Grind.{same_number_lists}
-use Rattle.std.proofs.lemmas.List.{drop-drop, drop-take, get_or-map, get_or_append_left, length-append, length-drop, length-take-le, take-take}
-use Rattle.std.proofs.lemmas.List.FromFn.{get_or-map-range_with_len, get_or-range_with_len, length-range_with_len}
+use Rattle.std.proofs.lemmas.List.{get_or_append_left, length-append}
 use Rattle.zarrs_codec_shard.specs.declared.shard_index.SubchunkRange.{SubchunkRange}
-use Rattle.zarrs_codec_shard.specs.ShardIndex.{range_entry, range_part, IsRangeWithin}
-use Rattle.zarrs_codec_shard.specs.Shards.{absent, entry_bytes, index_in}
-use Rattle.zarrs_codec_shard.proofs.ShardBytes.{entry_len, entry_offset, length-entry_bytes, not_absent}
-use Rattle.zarrs_codec_shard.specs.Subchunks.{corner, is_cut_by, quotients, subchunk_box, subchunk_count}
+use Rattle.zarrs_codec_shard.specs.ShardIndex.{range_entry}
+use Rattle.zarrs_codec_shard.specs.Shards.{absent, entry_bytes}
+use Rattle.zarrs_codec_shard.proofs.ShardBytes.{entry_len, entry_offset, not_absent}
+use Rattle.zarrs_codec_shard.specs.Subchunks.{corner, is_cut_by, quotients, subchunk_box}
 use Rattle.zarrs_codec_shard.proofs.Grids.{corner_long, cut_at, cut_len}
 use Rattle.zarrs_codec_shard.proofs.SubchunkBoxes.{long_corner}
 use Rattle.zarrs_subset.specs.Boxes.{position_count, InShape, place, unravel, zip_with}
-use Rattle.zarrs_subset.specs.Pieces.{piece_at}
 use Rattle.zarrs_subset.specs.Regions.{Box, IsLong, LiesInShape, box_from, overlap_of, seen_from, LiesInBox}
 use Rattle.zarrs_subset.proofs.Bytes.{along_holds, holds_along}
 use Rattle.zarrs_subset.proofs.Counts.{count_some, some_extent}
 use Rattle.zarrs_subset.proofs.Overlaps.{AllSome, length-overlap_extents, length-zip_with}
 use Rattle.zarrs_subset.proofs.Parts.{overlap_extents-at, zip_with-at}
 use Rattle.zarrs_subset.proofs.Positions.{unravel-place}
-use Rattle.zarrs_data_type.specs.Kind.{Kind}
 use Rattle.zarrs_subset.proofs.Inside.{count_inside}
 use Rattle.zarrs_codec_chain.specs.ShardParts.{HasOnlyMet, MeetsPart}
-use Rattle.zarrs_codec_chain.specs.Places.{boxes_meet, is_index_place, is_range_place, shard_places}
+use Rattle.zarrs_codec_chain.specs.Places.{boxes_meet, is_range_place}
 
 -- ---- the boxes
 

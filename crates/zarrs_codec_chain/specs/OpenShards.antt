@@ -1,5 +1,4 @@
 -- What is read of a shard in the code's value of it.
-use Rattle.std.specs.Prelude.{ℕ}
 use Rattle.zarrs_codec_leaf.specs.declared.source.ByteSource.{Ghosts as SourceMeaning}
 use Rattle.zarrs_codec_shard.specs.LentData.{lent_chunk_shape, lent_shape}
 use Rattle.zarrs_subset.specs.Regions.{box_of}

@@ -1,10 +1,9 @@
 -- What the codec `packbits` does with data.
-use Rattle.std.proofs.Common.{◌≡◌, ℕ, zero, suc, ◌+◌, ◌-◌, ◌*◌, ◌/◌, ◌%◌, ◌<◌, ◌≤◌, Bool, true, false, cond, eqb, ◌&&◌}
+use Rattle.std.proofs.Common.{◌≡◌, ℕ, zero, suc, ◌+◌, ◌-◌, ◌*◌, ◌/◌, ◌<◌, Bool, true, false, cond, eqb, ◌&&◌}
 use Rattle.std.proofs.Common.{List, [], ◌∷◌, ◌++◌, length, map, take, drop, get_or, None, Some, refl, sym, ap, ◌∙◌}
 use Rattle.std.proofs.Common.{subst, arith}
 use Rattle.std.specs.Prelude.{All, IsSome, is_some, option_and_then, slice_range}
 use Rattle.std.specs.Int.{div_ceil}
-use Rattle.std.specs.List.{list_all}
 use Rattle.std.specs.Simd.{first_chunks}
 use Rattle.std.proofs.lemmas.Bool.{false≢true, ltb-true, lt-ltb, eq-eqb, eqb-true, and_from}
 use Rattle.std.proofs.lemmas.List.{get_or-take, get_or-drop, length-take, length-drop, take_all}
@@ -16,7 +15,6 @@ use Rattle.zarrs_data_type.specs.Cell.{bytes, may_hold}
 use Rattle.zarrs_data_type.specs.ArrayData.{ArrayData, fixed}
 use Rattle.zarrs_data_type.specs.Cells.{cells, HasCells}
 use Rattle.zarrs_subset.specs.Pieces.{pieces}
-use Rattle.zarrs_data_type_bytes.proofs.Cells.{HasCells-IsSome}
 use Rattle.zarrs_data_type_bytes.proofs.Fixed.{cells-held, cells-of, length-fixed, whole_cells, HasCells-fixed}
 use Rattle.zarrs_data_type_bytes.proofs.Pieces.{pieces-one, pieces_more}
 use Rattle.zarrs_codec_leaf.specs.Chosen.{map_same}

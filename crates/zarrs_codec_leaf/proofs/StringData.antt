@@ -1,13 +1,13 @@
 -- What codecs of byte strings do with data.
-use Rattle.std.proofs.Common.{◌≡◌, ℕ, suc, zero, ◌+◌, ◌-◌, ◌*◌, ◌^◌, ◌<◌, ◌≤◌, Bool, true, false, cond, eqb, ◌&&◌, List}
-use Rattle.std.proofs.Common.{[], ◌∷◌, ◌++◌, length, map, take, drop, get_or, Option, None, Some, refl, sym, ap, ◌∙◌}
+use Rattle.std.proofs.Common.{◌≡◌, ℕ, suc, ◌+◌, ◌-◌, ◌^◌, ◌<◌, ◌≤◌, Bool, true, false, cond, eqb, ◌&&◌, List}
+use Rattle.std.proofs.Common.{[], ◌∷◌, ◌++◌, length, map, take, get_or, Option, None, Some, refl, sym, ap, ◌∙◌}
 use Rattle.std.proofs.Common.{subst, arith, append_assoc, append-nil}
-use Rattle.std.specs.Prelude.{IsSome, IsSomeAnd, is_some, option_and_then, option_map, nat_lt, nat_le, slice_index_or}
+use Rattle.std.specs.Prelude.{IsSome, IsSomeAnd, is_some, option_and_then, option_map, nat_lt, slice_index_or}
 use Rattle.std.specs.List.{flat_map, list_all, range_with_len}
-use Rattle.std.specs.Int.{w32, to_le_bytes, from_le_bytes}
-use Rattle.std.proofs.lemmas.Bool.{eq-eqb, eqb-true, and_from, false≢true, lt-ltb, le-ltb, le-leb, lt-leb}
+use Rattle.std.specs.Int.{w32, to_le_bytes}
+use Rattle.std.proofs.lemmas.Bool.{eq-eqb, and_from, false≢true, lt-ltb, le-ltb}
 use Rattle.std.proofs.lemmas.Grind.{flat_map-append}
-use Rattle.std.proofs.lemmas.List.{ext_get_or, get_or-map, length-map, length-drop, drop-drop, take_all, take_more}
+use Rattle.std.proofs.lemmas.List.{ext_get_or, get_or-map, length-map, take_all, take_more}
 use Rattle.std.proofs.lemmas.List.Folds.{list_all_more}
 use Rattle.std.proofs.lemmas.List.FromFn.{length-map-range_with_len, get_or-map-range_with_len}
 use Rattle.std.proofs.lemmas.List.Sums.{AllPass-from_list_all}
@@ -16,14 +16,14 @@ use Rattle.zarrs_data_type.specs.Kind.{Kind, element_size, is_variable, inner_of
 use Rattle.zarrs_data_type.specs.Kind as type
 use Rattle.zarrs_data_type.specs.Cell.{Cell, bytes, none, are_values, values_only}
 use Rattle.zarrs_data_type.specs.ArrayData.{ArrayData, fixed, variable, optional}
-use Rattle.zarrs_data_type.specs.Cells.{cells, cell_at, HasCells}
+use Rattle.zarrs_data_type.specs.Cells.{cells, HasCells}
 use Rattle.zarrs_data_type_bytes.proofs.Filled.{fits-cells, fits-optional}
 use Rattle.zarrs_data_type_bytes.proofs.Fixed.{sized_cells}
 use Rattle.zarrs_codec_leaf.specs.Bytes.{cell_bytes}
-use Rattle.zarrs_codec_leaf.specs.Chosen.{some_is, only_parts, map_same, chosen_size}
+use Rattle.zarrs_codec_leaf.specs.Chosen.{only_parts, map_same, chosen_size}
 use Rattle.zarrs_codec_leaf.specs.Leaf.{LeafMeaning, IsLawfulLeaf, encoding_of}
 use Rattle.zarrs_codec_leaf.specs.Strings.{strings_meaning}
-use Rattle.zarrs_codec_leaf.specs.VlenStrings.{is_short, behind_length, counted_strings, first_string, strings_of, uncounted}
+use Rattle.zarrs_codec_leaf.specs.VlenStrings.{is_short, behind_length, counted_strings, first_string, strings_of}
 
 -- the cells of byte strings
 pub cells-variable : (k : Kind) (strings : List (List ℕ)) → is_variable k ≡ true → cells k (variable strings) ≡ values_only k (map bytes strings)

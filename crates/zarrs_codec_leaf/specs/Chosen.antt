@@ -1,6 +1,6 @@
 -- A value that is present under a condition, taken apart.
 use Rattle.std.proofs.Common.{◌≡◌, Bool, true, false, cond, List, [], ◌∷◌, length, map, get_or, ◌<◌, ℕ, suc, Option}
-use Rattle.std.proofs.Common.{None, Some, refl, sym, ap, ◌∙◌, arith}
+use Rattle.std.proofs.Common.{None, Some, refl, ap, ◌∙◌, arith}
 use Rattle.std.specs.Prelude.{is_some, option_and_then, option_map}
 
 pub some_is : {A : Type 0} {x y : A} → Some x ≡ Some y → x ≡ y

@@ -1,5 +1,5 @@
 -- The codec `packbits`: eight bools a byte, the first in the lowest bit.
-use Rattle.std.specs.Prelude.{ℕ, ◌+◌, ◌*◌, ◌/◌, Bool, true, false, Option, None, Some, List, [], ◌∷◌, length, map, take}
+use Rattle.std.specs.Prelude.{ℕ, ◌+◌, ◌*◌, ◌/◌, Bool, true, false, None, Some, List, [], ◌∷◌, length, map, take}
 use Rattle.std.specs.Prelude.{drop, slice_index, ◌==◌, ◌&&◌, if◌then◌else◌}
 use Rattle.std.specs.List.{range_with_len, flat_map, list_all}
 use Rattle.std.specs.Int.{bit_at}

@@ -1,17 +1,16 @@
 -- The law of the codec `packbits`.
 use Rattle.std.proofs.Common.{◌≡◌, ℕ, zero, suc, ◌+◌, ◌-◌, ◌*◌, ◌/◌, ◌%◌, ◌<◌, ◌≤◌, ◌^◌, Bool, true, false, cond, eqb}
-use Rattle.std.proofs.Common.{◌&&◌, List, [], ◌∷◌, ◌++◌, length, map, take, drop, get_or, None, Some, refl, sym, ap}
+use Rattle.std.proofs.Common.{◌&&◌, List, [], ◌∷◌, length, map, take, drop, get_or, None, Some, refl, sym, ap}
 use Rattle.std.proofs.Common.{◌∙◌, subst, arith}
 use Rattle.std.proofs.Math.Dec.{ltb}
 use Rattle.std.specs.Prelude.{slice_index, slice_range}
-use Rattle.std.specs.List.{range_with_len, list_all, flat_map}
 use Rattle.std.specs.Int.{bit_at}
 use Rattle.std.proofs.lemmas.Bool.{eqb-true, eq-eqb, and_parts, and_from, ltb-true, ltb-false, lt-ltb, false≢true}
 use Rattle.std.proofs.lemmas.Nat.Bits.{bit_at-zero, bit_at-lt, bit_at_lowest}
 use Rattle.std.proofs.lemmas.List.{length-map, get_or-map, get_or-take, get_or-drop, get_or_past, get_or_append_left}
-use Rattle.std.proofs.lemmas.List.{length-drop, length-take, length-take-le, length-append, ext_get_or}
+use Rattle.std.proofs.lemmas.List.{length-drop, length-take, length-take-le, ext_get_or}
 use Rattle.std.proofs.Math.Seq.{get_or-append-add}
-use Rattle.std.proofs.lemmas.List.FromFn.{length-map-range_with_len, get_or-map-range_with_len}
+use Rattle.std.proofs.lemmas.List.FromFn.{get_or-map-range_with_len}
 use Rattle.std.proofs.lemmas.List.Sums.{AllPass-from_list_all, list_all-from_AllPass}
 use Rattle.std.proofs.lemmas.Simd.{map-map}
 use Rattle.std.proofs.Math.Nat.{pow-succ', div-div-eq-div-mul, add-mul-div_left, add-mul-mod_self_left, div-add-mod'}
@@ -20,7 +19,6 @@ use Rattle.zarrs_data_type.specs.Kind as type
 use Rattle.zarrs_data_type.specs.Cell.{Cell, bytes, none, some, is_value, are_values}
 use Rattle.zarrs_subset.specs.Pieces.{pieces, piece_at}
 use Rattle.zarrs_data_type_bytes.proofs.Pieces.{length-pieces, length-flat_map_same}
-use Rattle.zarrs_codec_leaf.specs.Bytes.{cell_bytes}
 use Rattle.zarrs_codec_leaf.specs.PackBits.{is_bool, packed_byte, packed_len, packed, byte_bits, bits, flag_of, flag_cell, are_zero, packbits_meaning}
 use Rattle.zarrs_codec_leaf.specs.Chosen.{some_is, only_parts, map_same}
 use Rattle.zarrs_codec_leaf.specs.Leaf.{IsLawfulLeaf}

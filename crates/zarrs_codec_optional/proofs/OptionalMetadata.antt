@@ -8,7 +8,7 @@ use Rattle.serde_json.specs.Find.{get_member, as_str, as_object, as_array}
 use Rattle.zarrs_metadata_parts.specs.Extension.{ExtensionData, settings, extension_of, extension_data, extension_names}
 use Rattle.zarrs_metadata_parts.specs.Extension.{configuration_from, must_understand_from, ◌>>=◌}
 use Rattle.zarrs_metadata_parts.specs.Members.{has_only, nonempty}
-use Rattle.zarrs_data_type.specs.FillMetadata.{sole_item}
+use Rattle.zarrs_metadata_parts.specs.Lists.{sole_item}
 use Rattle.zarrs_data_type.specs.TypeMetadata.{is_optional_name, levels_in}
 use Rattle.zarrs_data_type_kinds.proofs.TypeReading.{get_member-depth}
 use Rattle.zarrs_codec_leaf.specs.Chosen.{some_is, only_parts, bind_parts, map_parts}

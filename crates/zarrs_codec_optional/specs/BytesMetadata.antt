@@ -4,9 +4,8 @@ use Rattle.std.specs.Prelude.{option_map, option_and_then}
 use Rattle.std.specs.Str.{bytes_eq}
 use Rattle.serde_json.specs.Data.{Data, string, Members}
 use Rattle.serde_json.specs.Find.{get_member, as_str}
-use Rattle.zarrs_metadata_parts.specs.Extension.{ExtensionData, named, settings}
+use Rattle.zarrs_metadata_parts.specs.Extension.{ExtensionData, named, settings, extension_with_member}
 use Rattle.zarrs_metadata_parts.specs.Members.{has_only}
-use Rattle.zarrs_codec_array.specs.Metadata.{with_one_member}
 use Rattle.zarrs_codec_leaf.specs.declared.bytes_codec.Endianness.{Endianness}
 use Rattle.zarrs_codec_leaf.specs.declared.bytes_codec.Endianness.TheVariants.{Little, Big}
 use Rattle.zarrs_codec_optional.specs.Sole.{sole_codec}
@@ -47,4 +46,4 @@ endian_name Big = codes "big"
 
 abbrev pub extension_of_bytes : Option Endianness → ExtensionData
 extension_of_bytes None = named (codes "bytes")
-extension_of_bytes (Some endian) = with_one_member (codes "bytes") (codes "endian") (string (endian_name endian))
+extension_of_bytes (Some endian) = extension_with_member (codes "bytes") (codes "endian") (string (endian_name endian))

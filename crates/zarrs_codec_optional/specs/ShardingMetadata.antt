@@ -1,12 +1,10 @@
 -- The metadata of the codec `sharding_indexed`: the configuration that says it, and what is written.
-use Rattle.std.specs.Prelude.{ℕ, Bool, true, false, List, [], ◌∷◌, map, codes, ◌==◌, ◌&&◌, if◌then◌else◌, Option, Some, None, option_and_then}
-use Rattle.std.specs.Int.NonZero.{non_zero_u64_get}
+use Rattle.std.specs.Prelude.{ℕ, Bool, true, false, List, [], ◌∷◌, codes, ◌&&◌, if◌then◌else◌, Option, Some, None, option_and_then}
 use Rattle.std.specs.Str.{bytes_eq}
-use Rattle.std.specs.declared.num.NonZeroU64.{NonZeroU64}
 use Rattle.serde_json.specs.Data.{Data, string, Members, no_members, member}
 use Rattle.serde_json.specs.Find.{get_member, as_str}
 use Rattle.zarrs_metadata_parts.specs.Extension.{ExtensionData, extension_of, extension_data, ◌>>=◌}
-use Rattle.zarrs_metadata_parts.specs.Lists.{list_of, list_data, number_of, number_data}
+use Rattle.zarrs_metadata_parts.specs.Lists.{list_of, list_data, number_data, size_said}
 use Rattle.zarrs_metadata_parts.specs.Members.{has_only}
 use Rattle.zarrs_codec_leaf.specs.declared.bytes_codec.Endianness.TheVariants.{Little}
 use Rattle.zarrs_codec_optional.specs.BytesMetadata.{are_little_bytes, extension_of_bytes}
@@ -19,18 +17,7 @@ pub record ShardingData : Type 0 where
   pub at_start : Bool
   pub codecs : List ExtensionData
 
--- sizes as numbers
-abbrev pub sizes_of : List NonZeroU64 → List ℕ
-sizes_of sizes = map non_zero_u64_get sizes
-
 -- ---- what metadata says
-
--- a whole number that is not 0
-abbrev pub size_of_number : ℕ → Option ℕ
-size_of_number n = if n == 0 then None else Some n
-
-abbrev pub size_said : Data → Option ℕ
-size_said d = option_and_then size_of_number (number_of d)
 
 -- whether the index stands at the start: an absent member says that it stands at the end
 abbrev pub location_named : List ℕ → Option Bool

@@ -3,7 +3,7 @@ use Rattle.std.specs.Prelude.{Option}
 use Rattle.serde_json.specs.Data.{Data, array, no_items, item}
 use Rattle.serde_json.specs.Find.{as_array}
 use Rattle.zarrs_metadata_parts.specs.Extension.{ExtensionData, extension_of, extension_data, ◌>>=◌}
-use Rattle.zarrs_data_type.specs.FillMetadata.{sole_item}
+use Rattle.zarrs_metadata_parts.specs.Lists.{sole_item}
 
 -- the only extension point of a list
 abbrev pub sole_codec : Option Data → Option ExtensionData

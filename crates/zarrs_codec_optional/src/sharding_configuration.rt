@@ -3,19 +3,18 @@ ghost use Rattle.std.specs.Prelude.{◌≡◌, map, option_map, option_and_then,
 ghost use Rattle.std.specs.Int.NonZero.{non_zero_u64_get};
 ghost use Rattle.serde_json.specs.View.{view};
 ghost use Rattle.zarrs_metadata_parts.specs.Extension.{extension_data, extension_of, extension_view, settings};
-ghost use Rattle.zarrs_metadata_parts.specs.Lists.{list_data, list_of, number_data};
+ghost use Rattle.zarrs_metadata_parts.specs.Lists.{list_data, list_of, number_data, size_said, sizes_of};
 ghost use Rattle.zarrs_codec_optional.specs.ShardingMetadata.{location_said, sharding_data};
-ghost use Rattle.zarrs_codec_optional.specs.ShardingMetadata.{sharding_extension, size_said, sizes_of};
+ghost use Rattle.zarrs_codec_optional.specs.ShardingMetadata.{sharding_extension};
 ghost use Rattle.zarrs_codec_optional.specs.ShardingViews.{sharding_view};
 
 use crate::bytes_metadata::{are_little_bytes, list_of_bytes};
 use crate::metadata::named;
-use crate::sole::extension_from;
 use serde_json::Value;
 use std::alloc::{AllocError, Global};
 use std::num::NonZeroU64;
 use zarrs_codec_leaf::Endianness;
-use zarrs_metadata_parts::MetadataV3;
+use zarrs_metadata_parts::{MetadataV3, extensions, extensions_value, sizes, sizes_value};
 
 /// What a configuration of `sharding_indexed` says.
 #[derive(Drop)]
@@ -82,24 +81,10 @@ fn sizes_from(alloc: Global, member: Option<&Value>) -> Result<Option<Vec<NonZer
     ensures { IfOk result (λ found. option_map (λ sizes. sizes_of sizes.items) found
         ≡ option_and_then (list_of size_said) (option_map (λ value. view value.now) member.entry)) }
 {
-    let Some(items) = member.and_then(|value| value.as_array()) else {
-        return Ok(None);
-    };
-    let mut sizes = Vec::with_capacity(alloc, items.len())?;
-    for item in items {
-        match size_from(item) {
-            Some(size) => sizes.push(size)?,
-            None => return Ok(None),
-        }
+    match member {
+        Some(value) => sizes(alloc, value),
+        None => Ok(None),
     }
-    Ok(Some(sizes))
-}
-
-/// A whole number that is not 0.
-fn size_from(value: &Value) -> Option<NonZeroU64>
-    ensures { option_map non_zero_u64_get result ≡ size_said (view value.now) }
-{
-    NonZeroU64::new(value.as_u64()?)
 }
 
 /// Returns the list of extension points that a member says.
@@ -110,17 +95,10 @@ fn extensions_from(
     ensures { IfOk result (λ found. option_map (λ list. map extension_view list.items) found
         ≡ option_and_then (list_of extension_of) (option_map (λ value. view value.now) member.entry)) }
 {
-    let Some(items) = member.and_then(|value| value.as_array()) else {
-        return Ok(None);
-    };
-    let mut extensions = Vec::with_capacity(alloc, items.len())?;
-    for item in items {
-        match extension_from(item)? {
-            Some(extension) => extensions.push(extension)?,
-            None => return Ok(None),
-        }
+    match member {
+        Some(value) => extensions(alloc, value.clone()?),
+        None => Ok(None),
     }
-    Ok(Some(extensions))
 }
 
 /// Returns the metadata of a codec of shards with these subchunks.
@@ -153,25 +131,4 @@ pub fn sharding_metadata(
             "index_location",
             Value::try_from_str(alloc, location)?,
         )
-}
-
-fn sizes_value(alloc: Global, sizes: &[NonZeroU64]) -> Result<Value, AllocError>
-    ensures { IfOk result (λ value. view value ≡ list_data number_data (sizes_of sizes.now)) }
-{
-    let mut values = Vec::with_capacity(alloc, sizes.len())?;
-    for size in sizes {
-        values.push(Value::from(size.get()))?;
-    }
-    Ok(Value::Array(values))
-}
-
-fn extensions_value(alloc: Global, extensions: &[MetadataV3]) -> Result<Value, AllocError>
-    ensures { IfOk result (λ value. view value
-        ≡ list_data extension_data (map extension_view extensions.now)) }
-{
-    let mut values = Vec::with_capacity(alloc, extensions.len())?;
-    for extension in extensions {
-        values.push(extension.to_value(alloc)?)?;
-    }
-    Ok(Value::Array(values))
 }

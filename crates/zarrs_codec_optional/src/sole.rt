@@ -1,13 +1,12 @@
 //! Lists of one codec in the configuration of another.
 ghost use Rattle.std.specs.Prelude.{◌≡◌, option_map, IfOk};
-ghost use Rattle.serde_json.specs.View.{view, items_view};
+ghost use Rattle.serde_json.specs.View.{view};
 ghost use Rattle.zarrs_metadata_parts.specs.Extension.{extension_view, extension_of};
-ghost use Rattle.zarrs_data_type.specs.FillMetadata.{sole_item};
 ghost use Rattle.zarrs_codec_optional.specs.Sole.{sole_codec, list_of_one};
 
 use serde_json::Value;
 use std::alloc::{AllocError, Global};
-use zarrs_metadata_parts::MetadataV3;
+use zarrs_metadata_parts::{MetadataV3, one_item, sole_item};
 
 /// Returns the only extension point of a list.
 pub fn sole_codec(list: Option<&Value>) -> Result<Option<MetadataV3>, AllocError>
@@ -20,17 +19,6 @@ pub fn sole_codec(list: Option<&Value>) -> Result<Option<MetadataV3>, AllocError
     match sole_item(items) {
         Some(item) => extension_from(item),
         None => Ok(None),
-    }
-}
-
-/// Returns the item of a list of one.
-fn sole_item(items: &Vec<Value>) -> Option<&Value>
-    ensures { option_map (λ value. view value.now) result ≡ sole_item (items_view items.now.items) }
-{
-    if items.len() == 1 {
-        items.first()
-    } else {
-        None
     }
 }
 
@@ -47,7 +35,5 @@ pub fn extension_from(value: &Value) -> Result<Option<MetadataV3>, AllocError>
 pub fn list_of_one(alloc: Global, codec: &MetadataV3) -> Result<Value, AllocError>
     ensures { IfOk result (λ v. view v ≡ list_of_one (extension_view codec.now)) }
 {
-    let mut codecs = Vec::new(alloc);
-    codecs.push(codec.to_value(alloc)?)?;
-    Ok(Value::Array(codecs))
+    one_item(alloc, codec.to_value(alloc)?)
 }

@@ -1,5 +1,5 @@
 -- Whether a subchunk has a position of a box, dimension by dimension.
-use Rattle.std.specs.Prelude.{◌≡◌, ℕ, ◌+◌, ◌*◌, ◌<◌, ◌≤◌, Bool, List, max, min, nat_lt}
+use Rattle.std.specs.Prelude.{ℕ, ◌+◌, ◌*◌, ◌<◌, ◌≤◌, Bool, List, max, min, nat_lt}
 use Rattle.zarrs_codec_shard.specs.Subchunks.{corner}
 use Rattle.zarrs_subset.specs.Boxes.{position_count, unravel}
 use Rattle.zarrs_subset.specs.Regions.{Box, box_from, overlap_of}

@@ -1,5 +1,5 @@
 -- Which key a refused opening names, and that what metadata says is refused by no store.
-use Rattle.std.proofs.Common.{◌≡◌, ℕ, List, [], ◌∷◌, length, Option, Some, None, Result, Ok, Err, Bool, true, false, ◌==◌, if◌then◌else◌, subst}
+use Rattle.std.proofs.Common.{ℕ, List, [], ◌∷◌, length, Option, Some, None, Result, Ok, Err, Bool, true, false, ◌==◌, if◌then◌else◌, subst}
 use Rattle.zarrs_keys.specs.Metadata.{key_encoding_of}
 use Rattle.zarrs_chunk_grid.specs.Metadata.{grid_said}
 use Rattle.zarrs_data_type.specs.FillMetadata.{fill_said}
@@ -17,7 +17,7 @@ use Rattle.zarrs_metadata_v2.specs.Document.{DocumentV2Data}
 use Rattle.zarrs_metadata.specs.Conversion.{ConversionRefusal, no_type, no_fill_value, no_codecs, to_v3}
 use Rattle.zarrs_metadata.specs.Versions.{MetadataData, v3, v2}
 use Rattle.zarrs_options.specs.Refusals.{CreateRefusal, node_path, additional_field, data_type, fill_value, fill_value_metadata, codecs, storage_transformers, chunk_grid, chunk_key_encoding, grid_dimensions, dimension_names, subchunk_shape, storage, unread, missing_metadata, unsupported_v2, out_of_memory, unused, said_or, create_refusal_of, RefusesCreation}
-use Rattle.zarrs_creation.specs.Meanings.{Meaning, names_said, extents_said, not_converted, creation_by, creation_v3, creation, ◌>>=◌}
+use Rattle.zarrs_creation.specs.Meanings.{names_said, extents_said, not_converted, creation_by, creation_v3, creation, ◌>>=◌}
 use Rattle.zarrs_creation.specs.Opening.{NamesOneOf, fields_understood}
 use Rattle.zarrs_creation.specs.Writing.{without_document}
 

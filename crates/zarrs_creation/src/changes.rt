@@ -3,7 +3,7 @@ ghost use Rattle.std.specs.Prelude.{◌≡◌, length, map, Some, Ok, Err, IfOk,
 ghost use Rattle.zarrs_metadata_parts.specs.Extension.{extension_view};
 ghost use Rattle.zarrs_metadata_v3.specs.View.{name_view};
 ghost use Rattle.zarrs_metadata.specs.Versions.{metadata_view};
-ghost use Rattle.zarrs_chunk_grid.specs.Axes.{sizes_of};
+ghost use Rattle.zarrs_metadata_parts.specs.Lists.{sizes_of};
 ghost use Rattle.zarrs_chunk_grid.specs.GridView.{configuration_of, array_extents_of};
 ghost use Rattle.zarrs_options.specs.Given.{grid_given, regular_extension};
 ghost use Rattle.zarrs_options.specs.Refusals.{create_refusal_of, RefusesCreation, chunk_grid};
@@ -17,7 +17,7 @@ use crate::parts::{check_names, grid_from};
 use std::alloc::{AllocError, Global};
 use zarrs_chunk_grid::{ChunkGrid, ChunkShape};
 use zarrs_metadata::{ArrayMetadata, DimensionName, MetadataV3, PluginCreateError};
-use zarrs_metadata_v2::sizes_value;
+use zarrs_metadata_parts::sizes_value;
 use zarrs_options::{ArrayBuilderChunkGridMetadata, ArrayCreateError};
 
 /// Makes the refusal of names of dimensions in V2 metadata.

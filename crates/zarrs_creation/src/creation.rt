@@ -82,10 +82,7 @@ fn parts_of_v2(alloc: Global, metadata: &ArrayMetadataV2) -> Result<ArrayParts, 
     ensures { MakesParts (creation_v2 (document_v2_view metadata.now)) result }
 {
     match array_metadata_v2_to_v3(alloc, metadata) {
-        Ok(document) => {
-            let parts = parts_of_v3(alloc, &document)?;
-            Ok(parts)
-        }
+        Ok(document) => { Ok(parts_of_v3(alloc, &document)?) }
         Err(error) => Err(not_converted(alloc, metadata, error)),
     }
 }

@@ -25,9 +25,6 @@ length_numbers bytes = length-map-range_with_len (λ k. from_le_bytes w64 (piece
 pub number_at : (bytes : List ℕ) (k : ℕ) → k < length bytes / 8 → slice_index (numbers_in bytes) k ≡ from_le_bytes w64 (piece_at 8 bytes k)
 number_at bytes k lt = get_or-map-range_with_len (λ j. from_le_bytes w64 (piece_at 8 bytes j)) 0 (length bytes / 8) k k 0 lt (omega arith)
 
-length-written : (n : ℕ) → length (to_le_bytes w64 n) ≡ 8
-length-written n = refl
-
 length-all_written : (ns : List ℕ) → length (flat_map (to_le_bytes w64) ns) ≡ length ns * 8
 length-all_written ns = length-flat_map_same (to_le_bytes w64) 8 ns (λ k d lt. refl)
 

@@ -9,7 +9,7 @@ use Rattle.std.proofs.lemmas.List.{length-map, get_or-map, get_or_default}
 use Rattle.std.proofs.lemmas.List.FromFn.{get_or-map-range_with_len}
 use Rattle.std.proofs.lemmas.List.Sums.{AllPass-from_list_all, list_all-from_AllPass}
 use Rattle.zarrs_data_type_kinds.specs.declared.data_type.DataType.{DataType}
-use Rattle.zarrs_data_type_kinds.specs.Kind.{Kind, kind, element_size, is_variable, inner_of}
+use Rattle.zarrs_data_type_kinds.specs.Kind.{Kind, kind, is_variable, inner_of}
 use Rattle.zarrs_data_type_kinds.specs.Kind as type
 use Rattle.zarrs_data_type_kinds.specs.Cell.{bytes, none, some, is_element, is_value, may_hold, takes_any_bytes}
 use Rattle.zarrs_data_type_kinds.proofs.Sizes.{element_size-positive}

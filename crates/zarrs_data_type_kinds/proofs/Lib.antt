@@ -3,5 +3,4 @@ pub mod Sizes
 pub mod Values
 pub mod TypeNames
 pub mod TypeReading
-pub mod FillReading
 pub mod FillWriting

@@ -1,8 +1,8 @@
 -- The data type that metadata says.
 use Rattle.std.proofs.Common.{◌≡◌, ℕ, zero, suc, ◌*◌, ◌<◌, ◌≤◌, Bool, true, false, cond, ltb, leb, max, Ordering, Less}
-use Rattle.std.proofs.Common.{Equal, Greater, nat_cmp, List, [], ◌∷◌, Option, None, Some, refl, sym, ap, ◌∙◌, subst}
+use Rattle.std.proofs.Common.{Equal, Greater, nat_cmp, List, [], ◌∷◌, Option, None, Some, refl, ap, ◌∙◌}
 use Rattle.std.proofs.Common.{arith}
-use Rattle.std.specs.Prelude.{codes, option_map, option_and_then, unwrap_or, ◌&&◌, if◌then◌else◌}
+use Rattle.std.specs.Prelude.{codes, option_map, option_and_then, if◌then◌else◌}
 use Rattle.std.specs.Fmt.{decimal}
 use Rattle.std.specs.Ordering.{match_ordering}
 use Rattle.std.specs.Cmp.Lexicographic.{slice_cmp}
@@ -13,7 +13,7 @@ use Rattle.zarrs_metadata_parts.specs.Extension.{ExtensionData, settings}
 use Rattle.zarrs_metadata_parts.specs.Members.{has_only}
 use Rattle.zarrs_data_type_kinds.specs.Kind.{Kind}
 use Rattle.zarrs_data_type_kinds.specs.Kind as type
-use Rattle.zarrs_data_type_kinds.specs.TypeMetadata.{raw_size, number_said, size_of_bits, plain_kind, is_optional_name}
+use Rattle.zarrs_data_type_kinds.specs.TypeMetadata.{raw_size, size_of_bits, plain_kind, is_optional_name}
 use Rattle.zarrs_data_type_kinds.specs.TypeMetadata.{type_configuration_said, inner_extension, kind_within, levels_in, kind_of}
 use Rattle.zarrs_data_type_kinds.specs.TypeMetadata.{inner_members, kind_extension, is_readable}
 use Rattle.zarrs_data_type_kinds.proofs.TypeNames.{number_said-decimal, size_of_bits-times}

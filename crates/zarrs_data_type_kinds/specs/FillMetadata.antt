@@ -1,12 +1,12 @@
 -- Fill values as metadata says them.
 use Rattle.std.specs.Prelude.{ℕ, ℤ, pos, negsuc, int_le, nat_lt, nat_le, ◌==◌, ◌&&◌, List, [], ◌∷◌, ◌++◌, length}
-use Rattle.std.specs.Prelude.{slice_index, Bool, true, false, if◌then◌else◌, Option, None, Some, option_map}
+use Rattle.std.specs.Prelude.{slice_index, if◌then◌else◌, Option, None, Some, option_map}
 use Rattle.std.specs.Prelude.{option_and_then}
 use Rattle.std.specs.Int.{w8, w16, w32, w64, cast_unsigned, cast_signed, to_le_bytes, from_le_bytes, from_bool}
 use Rattle.std.specs.List.{list_all}
-use Rattle.serde_json.specs.Data.{Data, null, boolean, number, string, array, object, unsigned, Items, no_items, item}
+use Rattle.serde_json.specs.Data.{Data, null, boolean, number, string, array, unsigned, no_items, item}
 use Rattle.serde_json.specs.Find.{as_bool, as_number, as_i64, as_str, of_integer}
-use Rattle.zarrs_metadata_parts.specs.Lists.{number_of, numbers_of, numbers_data}
+use Rattle.zarrs_metadata_parts.specs.Lists.{sole_item, number_of, numbers_of, numbers_data}
 use Rattle.zarrs_data_type_kinds.specs.Kind.{Kind}
 use Rattle.zarrs_data_type_kinds.specs.Kind as type
 use Rattle.zarrs_data_type_kinds.specs.Cell.{inner_fill}
@@ -44,12 +44,6 @@ element_said (type.raw size) d = sized_said size d
 element_said type.string d = as_str d
 element_said type.bytes d = bytes_said d
 element_said (type.optional inner) d = None
-
--- the item of a list of one
-abbrev pub sole_item : Items → Option Data
-sole_item no_items = None
-sole_item (item d no_items) = Some d
-sole_item (item d (item e ds)) = None
 
 -- the bytes of the fill value that a JSON value says: for an optional type null is none, and a list of one value is
 -- some of what it says

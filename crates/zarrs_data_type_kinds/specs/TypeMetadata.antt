@@ -1,10 +1,10 @@
 -- The metadata of data types: what is read from it, and what is written for one.
 use Rattle.std.specs.Prelude.{ℕ, zero, suc, ◌*◌, ◌/◌, ◌%◌, ◌^◌, nat_lt, nat_le, ◌==◌, ◌&&◌, ◌||◌, List, [], ◌∷◌, Bool}
-use Rattle.std.specs.Prelude.{true, false, codes, if◌then◌else◌, Option, None, Some, option_map, option_and_then}
+use Rattle.std.specs.Prelude.{true, codes, if◌then◌else◌, Option, None, Some, option_map, option_and_then}
 use Rattle.std.specs.Fmt.{decimal}
 use Rattle.std.specs.Str.{bytes_eq}
 use Rattle.std.specs.Str.Parse.{digits_value}
-use Rattle.serde_json.specs.Data.{Data, string, object, Members, no_members, member, members_depth}
+use Rattle.serde_json.specs.Data.{Data, string, Members, no_members, member, members_depth}
 use Rattle.serde_json.specs.Find.{get_member, as_str, as_object}
 use Rattle.zarrs_metadata_parts.specs.Extension.{ExtensionData, settings, named, with_configuration, ◌>>=◌}
 use Rattle.zarrs_metadata_parts.specs.Members.{has_only}

@@ -3,14 +3,14 @@ ghost use Rattle.std.specs.Prelude.{◌≡◌, [], ◌∷◌, ◌++◌, true, So
 ghost use Rattle.std.specs.Prelude.{option_map, if◌then◌else◌, IfOk, IfErr, IfSome, IsSome, OnOk};
 ghost use Rattle.std.specs.List.{list_all};
 ghost use Rattle.std.specs.Str.{is_utf8};
-ghost use Rattle.serde_json.specs.Data.{string, array, item, no_items};
-ghost use Rattle.serde_json.specs.View.{view, items_view};
+ghost use Rattle.serde_json.specs.Data.{string};
+ghost use Rattle.serde_json.specs.View.{view};
 ghost use Rattle.zarrs_metadata_parts.specs.FillValue.{fill_data};
 ghost use Rattle.zarrs_metadata_parts.specs.Lists.{numbers_data};
 ghost use Rattle.zarrs_data_type_kinds.specs.Cell.{fill_cell, is_element};
 ghost use Rattle.zarrs_data_type_kinds.specs.Fills.{RefusesFillMetadata, RefusesFill};
 ghost use Rattle.zarrs_data_type_kinds.specs.FillMetadata.{bytes_said, sized_said, element_said};
-ghost use Rattle.zarrs_data_type_kinds.specs.FillMetadata.{sole_item, fill_said, element_data, fill_written};
+ghost use Rattle.zarrs_data_type_kinds.specs.FillMetadata.{fill_said, element_data, fill_written};
 ghost use Rattle.zarrs_data_type_kinds.specs.Kind.{kind};
 ghost use Rattle.zarrs_data_type_kinds.specs.Kind as type;
 
@@ -19,7 +19,7 @@ use crate::error::{DataTypeFillValueError, DataTypeFillValueMetadataError};
 use crate::fill_value::{FillValue, inner_fill};
 use serde_json::Value;
 use std::alloc::{AllocError, Global};
-use zarrs_metadata_parts::{FillValueMetadata, numbers, numbers_value};
+use zarrs_metadata_parts::{FillValueMetadata, numbers, numbers_value, one_item, sole_item};
 
 /// Returns the bytes in a list, if there are some.
 fn listed<const N: usize>(
@@ -175,17 +175,6 @@ fn some_of(bytes: Option<Vec<u8>>) -> Result<Option<Vec<u8>>, AllocError>
     }
 }
 
-/// Returns the item of a list of one.
-fn sole_item(items: &Vec<Value>) -> Option<&Value>
-    ensures { option_map (λ value. view value.now) result ≡ sole_item (items_view items.now.items) }
-{
-    if items.len() == 1 {
-        items.first()
-    } else {
-        None
-    }
-}
-
 /// Returns the bytes of the fill value that a JSON value says.
 fn fill_said(
     alloc: Global,
@@ -273,14 +262,6 @@ fn fill_written(alloc: Global, data_type: &DataType, bytes: &[u8]) -> Result<Val
         },
         _ => element_value(alloc, data_type, bytes),
     }
-}
-
-fn one_item(alloc: Global, value: Value) -> Result<Value, AllocError>
-    ensures { IfOk result (λ list. view list ≡ array (item (view value) no_items)) }
-{
-    let mut items = Vec::new(alloc);
-    items.push(value)?;
-    Ok(Value::Array(items))
 }
 
 impl DataType {

@@ -3,7 +3,6 @@ ghost use Rattle.std.specs.Prelude.{◌≡◌, ◌*◌, [], ◌∷◌, None, opt
 ghost use Rattle.std.specs.Prelude.{option_map, string_bytes, true, decimal, IfOk, IfErr};
 ghost use Rattle.std.specs.Int.NonZero.{non_zero_usize_get};
 ghost use Rattle.serde_json.specs.Data.{no_members};
-ghost use Rattle.serde_json.specs.View.{members_view};
 ghost use Rattle.zarrs_metadata_parts.specs.Extension.{extension_view, settings};
 ghost use Rattle.zarrs_metadata_parts.specs.Refusals.{RefusesMeaning};
 ghost use Rattle.zarrs_data_type_kinds.specs.Kind.{kind, optional};
@@ -15,9 +14,10 @@ ghost use Rattle.zarrs_data_type_kinds.specs.TypeMetadata.{kind_extension, is_re
 
 use crate::data_type::DataType;
 use itoa::Buffer;
-use serde_json::{Map, Value};
+use serde_json::Value;
 use std::alloc::{AllocError, Global};
 use std::num::NonZeroUsize;
+use zarrs_metadata_parts::members::copied;
 use zarrs_metadata_parts::{MetadataV3, PluginCreateError};
 
 /// Returns the number that has this text as its decimal.
@@ -84,12 +84,6 @@ fn plain_type(name: &str) -> Option<DataType>
         "bytes" | "variable_length_bytes" => Some(DataType::Bytes),
         _ => Some(DataType::Raw(raw_size(name)?)),
     }
-}
-
-fn copied(members: &Map<String, Value>) -> Result<Map<String, Value>, AllocError>
-    ensures { IfOk result (λ copy. members_view copy.entries ≡ members_view members.now.entries) }
-{
-    members.clone()
 }
 
 /// Returns the metadata of the inner type, which is the configuration of an optional type.

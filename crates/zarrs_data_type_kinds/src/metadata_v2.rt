@@ -1,61 +1,18 @@
-//! Data types and fill values as the metadata of Zarr V2 says them.
+//! Fill values as the metadata of Zarr V2 says them.
 ghost use Rattle.std.specs.Prelude.{◌≡◌, Some, option_map, IfOk, IfErr, IsSome};
 ghost use Rattle.zarrs_metadata_parts.specs.FillValue.{fill_data};
-ghost use Rattle.zarrs_metadata_parts.specs.Refusals.{RefusesMeaning};
 ghost use Rattle.zarrs_data_type_kinds.specs.Cell.{fill_cell};
 ghost use Rattle.zarrs_data_type_kinds.specs.Fills.{RefusesFillMetadata};
 ghost use Rattle.zarrs_data_type_kinds.specs.Kind.{kind};
-ghost use Rattle.zarrs_data_type_kinds.specs.MetadataV2.{kind_v2, kind_of_v2, kind_as_v3, cells_v2, fill_said_v2};
+ghost use Rattle.zarrs_data_type_kinds.specs.MetadataV2.{cells_v2, fill_said_v2};
 
 use crate::data_type::DataType;
 use crate::error::DataTypeFillValueMetadataError;
 use crate::fill_value::FillValue;
 use std::alloc::Global;
-use zarrs_metadata_parts::{
-    DataTypeMetadataV2, FillValueMetadata, KindV2, PluginCreateError, TypeV2,
-};
-
-/// The data type of these cells.
-fn type_of_cells(cells: KindV2) -> DataType
-    ensures { kind result ≡ kind_v2 cells }
-{
-    match cells {
-        KindV2::Bool => DataType::Bool,
-        KindV2::Int8 => DataType::Int8,
-        KindV2::Int16 => DataType::Int16,
-        KindV2::Int32 => DataType::Int32,
-        KindV2::Int64 => DataType::Int64,
-        KindV2::Uint8 => DataType::UInt8,
-        KindV2::Uint16 => DataType::UInt16,
-        KindV2::Uint32 => DataType::UInt32,
-        KindV2::Uint64 => DataType::UInt64,
-        KindV2::Text => DataType::String,
-    }
-}
+use zarrs_metadata_parts::{FillValueMetadata, KindV2};
 
 impl DataType {
-    /// Reads the data type that the text of a V2 data type says (Zarr V2 storage specification, "Data type
-    /// encoding"): bool of `|b1`, numbers of `|i1`, `<i2` or `>u8` and the like, string of `|O`. It is what
-    /// `from_metadata` returns for its V3 name. The order of bytes is no part of the type: codecs say it.
-    ///
-    /// # Errors
-    /// `Other` if the text is another, as it then has no V3 name. `OutOfMemory` may come in its place.
-    pub fn from_metadata_v2(
-        alloc: Global,
-        metadata: &DataTypeMetadataV2,
-    ) -> Result<DataType, PluginCreateError>
-        ensures read { IfOk result (λ t. kind_of_v2 metadata.now ≡ Some (kind t)) }
-        ensures as_v3 { IfOk result (λ t. kind_as_v3 metadata.now ≡ Some (kind t)) }
-        ensures refused { IfErr result (RefusesMeaning (kind_of_v2 metadata.now)) }
-    {
-        let dtype = metadata.as_str();
-        let Some(found) = TypeV2::from_text(dtype) else {
-            let text = format!(in alloc; "no data type has the Zarr V2 name `{dtype}`")?;
-            return Err(PluginCreateError::Other(text));
-        };
-        Ok(type_of_cells(found.kind))
-    }
-
     /// What the cells of this type are in Zarr V2, if it has them.
     fn cells_v2(&self) -> Option<KindV2>
         ensures { result ≡ cells_v2 (kind self.now) }

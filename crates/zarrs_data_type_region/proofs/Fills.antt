@@ -1,16 +1,13 @@
 -- A box that is filled with one cell.
-use Rattle.std.proofs.Common.{◌≡◌, ℕ, ◌<◌, Bool, true, false, cond, List, length, replicate, get_or, Option, None, Some, refl, sym, ap, ◌∙◌, subst, arith}
-use Rattle.std.specs.Prelude.{unwrap_or}
-use Rattle.std.proofs.lemmas.Bool.{false≢true}
+use Rattle.std.proofs.Common.{◌≡◌, ℕ, ◌<◌, Bool, true, false, cond, List, length, replicate, get_or, Some, refl, sym, ap, ◌∙◌, subst, arith}
 use Rattle.std.proofs.lemmas.List.{length-replicate, get_or-replicate}
 use Rattle.std.proofs.lemmas.List.FromFn.{get_or-map-range_with_len}
 use Rattle.zarrs_subset.specs.Boxes.{position_count}
 use Rattle.zarrs_subset.specs.Regions.{Box, IsLong, in_box, place_in}
 use Rattle.zarrs_subset.proofs.Bytes.{place_in_below}
-use Rattle.zarrs_data_type_kinds.specs.Kind.{Kind, element_size, fixed_size, cell_size, inner_of}
+use Rattle.zarrs_data_type_kinds.specs.Kind.{Kind, fixed_size}
 use Rattle.zarrs_data_type_kinds.specs.Kind as type
-use Rattle.zarrs_data_type_kinds.specs.Cell.{Cell, bytes, none, some, is_element, is_value, held_size}
-use Rattle.zarrs_data_type_kinds.proofs.Sizes.{cell_size-fixed, element_len, held_size-inner}
+use Rattle.zarrs_data_type_kinds.specs.Cell.{Cell, none}
 use Rattle.zarrs_data_type_bytes.specs.ArrayData.{ArrayData}
 use Rattle.zarrs_data_type_bytes.specs.Cells.{cells, fits, cell_at}
 use Rattle.zarrs_data_type_bytes.specs.Parts.{TakesEach}

@@ -7,7 +7,7 @@ use Rattle.std.proofs.lemmas.Bool.{and_from, cases_lt, cases_order, eq-eqb}
 use Rattle.std.proofs.lemmas.List.{length-append, length-drop, length-take-le, take_all, take_at}
 use Rattle.zarrs_subset.specs.Pieces.{piece_at}
 use Rattle.zarrs_subset.proofs.Kernel.{block_order}
-use Rattle.zarrs_data_type_kinds.specs.Kind.{Kind, fixed_size, is_variable}
+use Rattle.zarrs_data_type_kinds.specs.Kind.{Kind, fixed_size}
 use Rattle.zarrs_data_type_kinds.specs.Kind as type
 use Rattle.zarrs_data_type_kinds.specs.Cell.{bytes}
 use Rattle.zarrs_data_type_kinds.specs.Cell as held

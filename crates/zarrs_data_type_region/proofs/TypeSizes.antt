@@ -2,7 +2,7 @@
 use Rattle.std.proofs.Common.{◌≡◌, ℕ, ◌*◌, true, false, ◌&&◌, Option, None, Some, inl, inr, refl, sym, ap, ◌∙◌, subst}
 use Rattle.std.specs.Prelude.{◌==◌}
 use Rattle.std.proofs.lemmas.Bool.{cases_Bool, eqb-true, and_parts, false≢true}
-use Rattle.zarrs_data_type_kinds.specs.Kind.{Kind, element_size, fixed_size, cell_size, inner_of, is_variable}
+use Rattle.zarrs_data_type_kinds.specs.Kind.{Kind, element_size, fixed_size, cell_size, is_variable}
 use Rattle.zarrs_data_type_kinds.specs.Kind as type
 use Rattle.zarrs_data_type_bytes.specs.ArrayData.{ArrayData, fixed, variable, optional}
 use Rattle.zarrs_data_type_bytes.specs.Cells.{fits}

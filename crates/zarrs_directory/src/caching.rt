@@ -11,13 +11,12 @@ ghost use Rattle.zarrs_storage.specs.Memory.{values_of};
 ghost use Rattle.zarrs_directory.specs.Directory.{cache_state, has_noted, RefusesFile, RefusesWriting};
 ghost use Rattle.zarrs_directory.specs.Directory.{ForgetsAll, HoldsNothing, HoldsSame, NotesKey};
 
-use crate::counts::WritingCalls;
 use crate::files::Directory;
 use crate::held::{hold, insert_value, remove_value};
 use std::alloc::{AllocError, Global};
 use std::collections::{BTreeMap, BTreeSet};
 use std::rt::Files;
-use zarrs_storage::{Bytes, StorageError, StoreKey};
+use zarrs_storage::{Bytes, StorageError, StoreKey, WritingCalls};
 
 /// What was read of a directory, and what was written to it since: the values, the keys that were read, and the counts of
 /// the writing calls.
@@ -114,7 +113,7 @@ impl Cache {
         Cache {
             values: BTreeMap::new(alloc),
             read: BTreeSet::new(alloc),
-            counts: WritingCalls::new(),
+            counts: WritingCalls::starting_at(0),
         }
     }
 
@@ -211,9 +210,7 @@ impl Cache {
             → IsErrOf result StorageError.Exhausted }
         ensures reason { IfErr result (RefusesWriting (cache_state self.old) key.now) }
     {
-        if self.counts.are_exhausted() {
-            return Err(StorageError::Exhausted);
-        }
+        self.counts.check()?;
         let outcome = put(&mut self.values, directory, alloc, key, value);
         self.counts.count(outcome.is_err());
         outcome
@@ -233,9 +230,7 @@ impl Cache {
             → IsErrOf result StorageError.Exhausted }
         ensures reason { IfErr result (RefusesWriting (cache_state self.old) key.now) }
     {
-        if self.counts.are_exhausted() {
-            return Err(StorageError::Exhausted);
-        }
+        self.counts.check()?;
         match directory.remove(alloc, key) {
             Ok(()) => {
                 remove_value(&mut self.values, key);
@@ -258,9 +253,7 @@ impl Cache {
         ensures reason { IfErr result (λ e. (e ≡ StorageError.ReadOnly)
             ⊎ ((e ≡ StorageError.Exhausted) × ((cache_state self.old).calls ≡ last_call))) }
     {
-        if self.counts.are_exhausted() {
-            return Err(StorageError::Exhausted);
-        }
+        self.counts.check()?;
         self.counts.count_part(true);
         Err(StorageError::ReadOnly)
     }

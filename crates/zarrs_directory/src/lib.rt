@@ -8,7 +8,6 @@
 #![tactic(auto)]
 
 mod caching;
-mod counts;
 mod excerpt;
 mod excerpts;
 mod files;

@@ -29,7 +29,7 @@ use Rattle.zarrs_engine_calls.specs.Layout.{ArrayState, Layout, IsLawful, layout
 use Rattle.zarrs_engine_calls.specs.Content.{value_at}
 use Rattle.zarrs_engine_calls.specs.Refusals as refusal
 use Rattle.zarrs_engine_calls.specs.Refusals.{Refusal, RefusesBy, box_refusal, data_refusal, encode_refusal, encoded_cells, fill_refusal}
-use Rattle.zarrs_engine_calls.specs.Refusals.{is_left_out, is_too_large, length_refusal, refusal_of, refuse_if}
+use Rattle.zarrs_engine_calls.specs.Refusals.{is_left_out, is_too_large, length_refusal, refuse_if}
 use Rattle.zarrs_engine_calls.specs.Step.{RefusesResize}
 use Rattle.zarrs_engine_calls.specs.ArgumentRefusals.{resize_refusal}
 use Rattle.zarrs_engine_calls.specs.Changes.{IsPut, IsValueOf, Makes}

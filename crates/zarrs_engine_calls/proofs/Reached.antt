@@ -25,7 +25,7 @@ use Rattle.zarrs_engine_calls.specs.Layout.{ArrayState, Layout, IsLawful}
 use Rattle.zarrs_engine_calls.specs.Content.{value_at, content, chunk_cell}
 use Rattle.zarrs_engine_calls.specs.ChunkBoxes.{CoversBox, chunks_met, ends_within, is_covered_box, is_empty, is_part_of, is_whole_of, last_of, part_box}
 use Rattle.zarrs_engine_calls.specs.Refusals as refusal
-use Rattle.zarrs_engine_calls.specs.Refusals.{Refusal, RefusesBy, box_refusal, key_refusal, length_refusal, read_refusal}
+use Rattle.zarrs_engine_calls.specs.Refusals.{Refusal, RefusesBy, box_refusal, length_refusal, read_refusal}
 use Rattle.zarrs_engine_calls.specs.Changes.{IsPresent, RetrievesChunk, RetrievesIfExists}
 use Rattle.zarrs_engine_calls.specs.Reads.{IsBroken, ReadsRegion}
 use Rattle.zarrs_engine_calls.specs.StateRefusals.{IsLargeBox, IsTooLargeToRead, NeedsLargeFill, RefusesChunkRead, RefusesRegionRead, RefusesSomeChunk, known_cell}

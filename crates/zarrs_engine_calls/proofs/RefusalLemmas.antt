@@ -19,7 +19,7 @@ use Rattle.zarrs_engine_calls.specs.Errors.{error_of_storage, error_of_codec}
 use Rattle.zarrs_engine_calls.specs.Changes.{Makes}
 use Rattle.zarrs_engine_calls.specs.Refusals as refusal
 use Rattle.zarrs_engine_calls.specs.Refusals.{Refusal, refusal_of, refusal_of_storage, refusal_of_codec, box_refusal}
-use Rattle.zarrs_engine_calls.specs.Refusals.{is_too_large, data_refusal, encode_refusal, encoded_cells, is_left_out, RefusesBy}
+use Rattle.zarrs_engine_calls.specs.Refusals.{is_too_large, RefusesBy}
 
 -- what refuses a part of a call refuses the call
 pub refusal_moved : (a b : Option Refusal) (r : Refusal) → ((x : Refusal) → a ≡ Some x → b ≡ Some x) → RefusesBy a r → RefusesBy b r

@@ -28,7 +28,7 @@ use Rattle.zarrs_engine_calls.specs.Layout.{Layout, IsLawful}
 use Rattle.zarrs_engine_calls.specs.Content.{value_at, decoded_cells}
 use Rattle.zarrs_engine_calls.specs.Errors.{error_of_storage, error_of_codec}
 use Rattle.zarrs_engine_calls.specs.Refusals as refusal
-use Rattle.zarrs_engine_calls.specs.Refusals.{Refusal, refusal_of, refusal_of_storage, length_refusal, box_refusal}
+use Rattle.zarrs_engine_calls.specs.Refusals.{Refusal, refusal_of, length_refusal, box_refusal}
 use Rattle.zarrs_engine_calls.specs.Refusals.{is_left_out, encoded_cells, encode_refusal, data_refusal, key_refusal}
 use Rattle.zarrs_engine_calls.specs.Refusals.{fill_refusal, is_too_large, read_refusal, RefusesBy, refuse_if}
 use Rattle.zarrs_engine_calls.specs.Changes.{IsValueOf, RetrievesChunk, RetrievesIfExists}

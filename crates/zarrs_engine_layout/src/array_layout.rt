@@ -241,8 +241,7 @@ impl<G: ChunkGridTraits, K: ChunkKeyEncodingTraits, C: ChainTraits> ArrayLayout<
             cell_type: &self.cell_type,
             shape: extents.shape.as_slice(),
         };
-        let data = self.chain.decode(alloc, encoded, &chunk)?;
-        Ok(data)
+        Ok(self.chain.decode(alloc, encoded, &chunk)?)
     }
 
     /// Returns the cells of the chunk with these indices if it is absent.

@@ -28,7 +28,6 @@ impl<G: ChunkGridTraits, K: ChunkKeyEncodingTraits, C: ChainTraits> ArrayLayout<
             chunk_indices.now encoded.now ≡ Some (option_map (λ v. v.items) less)) result }
     {
         let shape = self.chunk_shape(alloc, chunk_indices)?;
-        let less = self.chain.compact(alloc, encoded, shape.as_slice())?;
-        Ok(less)
+        Ok(self.chain.compact(alloc, encoded, shape.as_slice())?)
     }
 }

@@ -1,6 +1,6 @@
 //! The chunks that a change of the array's shape cuts, one after another.
 ghost use Rattle.std.specs.Prelude.{◌≡◌, ℕ, ◌+◌, ◌<◌, ◌≤◌, false, true, length, slice_index};
-ghost use Rattle.std.specs.Prelude.{◌↔◌, IsTrue, SomeIndex, IfSome, IfNone};
+ghost use Rattle.std.specs.Prelude.{IfSome, IfNone};
 ghost use Rattle.std.specs.Bool.{OnTrue, OnFalse};
 ghost use Rattle.zarrs_subset.specs.Boxes.{position_count};
 ghost use Rattle.zarrs_subset.specs.Regions.{box_at_origin, place_in};
@@ -12,7 +12,7 @@ use std::alloc::{AllocError, Global};
 use zarrs_chunk_grid::ChunkGridTraits;
 use zarrs_codec_chain::ChainTraits;
 use zarrs_keys::ChunkKeyEncodingTraits;
-use zarrs_subset::{ArrayIndices, ArrayShape};
+use zarrs_subset::{ArrayIndices, ArrayShape, has_zero};
 
 /// A walk in row-major order through those positions of an array that are not below another shape. It lends the
 /// position that it is at. It takes no memory on the way, and goes past a whole range of positions below the shape in one
@@ -88,13 +88,6 @@ impl CutWalk {
     {
         advance(&mut self.current, &self.shape, &self.whole, self.axis)
     }
-}
-
-/// Returns whether some extent is 0.
-fn has_zero(extents: &[u64]) -> bool
-    ensures { IsTrue result ↔ SomeIndex extents.now (λ k. slice_index extents.now k ≡ 0) }
-{
-    extents.iter().any(|extent| *extent == 0)
 }
 
 /// Returns the last dimension along which the array of `shape` reaches past `whole`.

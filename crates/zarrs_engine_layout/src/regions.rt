@@ -155,8 +155,7 @@ impl<G: ChunkGridTraits, K: ChunkKeyEncodingTraits, C: ChainTraits> ArrayLayout<
         if count.checked_mul(cell_size as u64).is_none() {
             return Err(ArrayError::SizeOverflow);
         }
-        let data = ArrayBytes::new_fill_value(alloc, data_type, count, fill_value)?;
-        Ok(data)
+        Ok(ArrayBytes::new_fill_value(alloc, data_type, count, fill_value)?)
     }
 
     /// Returns whether the region is the box of one chunk, the first one of those that it meets.

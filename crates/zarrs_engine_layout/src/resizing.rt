@@ -7,64 +7,8 @@ use zarrs_keys::ChunkKeyEncodingTraits;
 use zarrs_subset::ArraySubset;
 
 impl<G: ChunkGridTraits, K: ChunkKeyEncodingTraits, C: ChainTraits> ArrayLayout<G, K, C> {
-    ghost use Rattle.std.specs.Prelude.{◌≡◌, if◌then◌else◌, length, true, Some, None};
-    ghost use Rattle.zarrs_chunk_grid.specs.Grids.{box_at, has_box};
-    ghost use Rattle.zarrs_engine_calls.specs.ChunkBoxes.{last_of};
-    ghost use Rattle.zarrs_engine_calls.specs.Cuts.{is_below, is_cut, keeps_some};
-
-    /// Returns whether there is a chunk with these indices.
-    fn has_chunk(&self, chunk_indices: &[u64]) -> bool
-        requires { length chunk_indices.now ≡ (G.grid self.now.grid).dimensions }
-        ensures { result ≡ has_box (G.grid self.now.grid) chunk_indices.now }
-    {
-        for (dimension, number) in chunk_indices.iter().enumerate() {
-            let Some(_) = self.grid.chunk_interval(dimension, *number) else {
-                return false;
-            };
-        }
-        true
-    }
-
-    /// Returns whether the first cell of the chunk is below the shape.
-    fn begins_below(&self, chunk_indices: &[u64], shape: &[u64]) -> bool
-        requires chunk { has_box (G.grid self.now.grid) chunk_indices.now ≡ true }
-        requires shape { length shape.now ≡ (G.grid self.now.grid).dimensions }
-        ensures { result ≡ keeps_some (G.grid self.now.grid) shape.now chunk_indices.now }
-    {
-        for (dimension, extent) in shape.iter().enumerate() {
-            let Some(interval) = self
-                .grid
-                .chunk_interval(dimension, chunk_indices[dimension])
-            else {
-                unreachable!()
-            };
-            if interval.start >= *extent {
-                return false;
-            }
-        }
-        true
-    }
-
-    /// Returns whether the last cell of the chunk is below the shape.
-    fn ends_below(&self, chunk_indices: &[u64], shape: &[u64]) -> bool
-        requires chunk { has_box (G.grid self.now.grid) chunk_indices.now ≡ true }
-        requires shape { length shape.now ≡ (G.grid self.now.grid).dimensions }
-        ensures { result ≡ is_below shape.now
-            (last_of (box_at (G.grid self.now.grid) chunk_indices.now)) }
-    {
-        for (dimension, extent) in shape.iter().enumerate() {
-            let Some(interval) = self
-                .grid
-                .chunk_interval(dimension, chunk_indices[dimension])
-            else {
-                unreachable!()
-            };
-            if interval.start + interval.extent.get() > *extent {
-                return false;
-            }
-        }
-        true
-    }
+    ghost use Rattle.std.specs.Prelude.{◌≡◌, if◌then◌else◌, length, Some, None};
+    ghost use Rattle.zarrs_engine_calls.specs.Cuts.{is_cut, keeps_some};
 
     /// Returns whether the chunk with these indices has cells below this shape, if it has cells that are not. `None` if
     /// it has no such cell, or if there is no such chunk.
@@ -74,13 +18,16 @@ impl<G: ChunkGridTraits, K: ChunkKeyEncodingTraits, C: ChainTraits> ArrayLayout<
         ensures { result ≡ (if is_cut (G.grid self.now.grid) shape.now chunk_indices.now
             then Some (keeps_some (G.grid self.now.grid) shape.now chunk_indices.now) else None) }
     {
-        if !self.has_chunk(chunk_indices) {
-            return None;
+        let mut begins_below = true;
+        let mut ends_below = true;
+        for (dimension, extent) in shape.iter().enumerate() {
+            let chunk = self
+                .grid
+                .chunk_interval(dimension, chunk_indices[dimension])?;
+            begins_below &= chunk.start < *extent;
+            ends_below &= chunk.start + chunk.extent.get() <= *extent;
         }
-        if self.ends_below(chunk_indices, shape) {
-            return None;
-        }
-        Some(self.begins_below(chunk_indices, shape))
+        (!ends_below).then_some(begins_below)
     }
 }
 

@@ -18,9 +18,9 @@ use serde_json::{Map, Value};
 use std::alloc::{AllocError, Global};
 use zarrs_metadata_parts::members::have_only;
 use zarrs_metadata_parts::{
-    EndianV2, FillValueMetadata, KindV2, MetadataV3, TypeV2, numbers_value,
+    EndianV2, FillValueMetadata, KindV2, MetadataV3, TypeV2, numbers_value, sizes_value,
 };
-use zarrs_metadata_v2::{ArrayMetadataV2, ArrayMetadataV2Order, sizes_value};
+use zarrs_metadata_v2::{ArrayMetadataV2, ArrayMetadataV2Order};
 use zarrs_metadata_v3::ArrayMetadataV3;
 use zarrs_metadata_v3::members::{copied, member_of};
 

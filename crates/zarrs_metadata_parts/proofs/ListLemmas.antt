@@ -1,12 +1,16 @@
 -- Reading and writing lists, item by item.
-use Rattle.std.proofs.Common.{◌≡◌, ℕ, ◌+◌, ◌<◌, ◌≤◌, List, [], ◌∷◌, ◌++◌, length, get_or, take, drop, map, Option, Some, None, option_map, option_and_then, Vec, Global, refl, sym, ap, ◌∙◌}
+use Rattle.std.proofs.Common.{◌≡◌, ℕ, ◌+◌, ◌<◌, ◌≤◌, List, [], ◌∷◌, ◌++◌, length, get_or, take, drop, map, Option, Some, None, option_map, option_and_then, Vec, Global, refl, sym, ap, ◌∙◌, arith}
+use Rattle.std.specs.Int.NonZero.{non_zero_u64_get}
+use Rattle.std.specs.declared.num.NonZeroU64.{NonZeroU64}
+use Rattle.std.proofs.lemmas.Bool.{ne_eqb}
 use Rattle.std.proofs.lemmas.List.{append-nil, at_drop_more, drop_all, map-append, take_all, take_more}
+use Rattle.std.proofs.lemmas.Simd.{map-map}
 use Rattle.serde_json.specs.Data.{Data, array}
 use Rattle.serde_json.specs.Find.{as_array}
 use Rattle.serde_json.specs.View.{view, items_of, items_view}
 use Rattle.serde_json.specs.declared.value.Value.{Value, Array}
 use Rattle.serde_json.proofs.Views.{view-Array}
-use Rattle.zarrs_metadata_parts.specs.Lists.{all_of, list_of, list_data, number_data, numbers_of, numbers_data}
+use Rattle.zarrs_metadata_parts.specs.Lists.{all_of, list_of, list_data, number_data, numbers_of, numbers_data, size_said, sizes_of, sole_item}
 
 pub map_same : {A : Type 0} (xs : List A) → map (λ x. x) xs ≡ xs
 map_same [] = refl
@@ -20,6 +24,15 @@ all_of-items_of f g h each (x ∷ xs) = rw (each x, all_of-items_of f g h each x
 -- the numbers that are written are read again
 pub numbers_of-numbers_data : (numbers : List ℕ) → numbers_of (numbers_data numbers) ≡ Some numbers
 numbers_of-numbers_data numbers = all_of-items_of _ number_data (λ n. n) (λ n. refl) numbers ∙ ap Some (map_same numbers)
+
+-- sizes that are written are read again
+pub size_back : (size : NonZeroU64) → size_said (number_data size.value) ≡ Some size.value
+size_back size = let some = size.ok in rw (ne_eqb size.value 0 (λ z. absurd (omega arith))) refl
+
+pub sizes_back : (sizes : List NonZeroU64) → list_of size_said (numbers_data (sizes_of sizes)) ≡ Some (sizes_of sizes)
+sizes_back sizes =
+    ap (λ (ds : List Data). all_of size_said (items_of ds)) (map-map number_data non_zero_u64_get sizes)
+    ∙ all_of-items_of size_said (λ (size : NonZeroU64). number_data size.value) non_zero_u64_get size_back sizes
 
 -- the value of a list, once what stands for each element is written
 pub list_written : {A B : Type 0} (f : B → Data) (h : List A → List B) (xs : List A) (n : ℕ) (values : Vec Value Global) → length xs ≤ n
@@ -50,3 +63,9 @@ none_read f d items seen n v made is same below at none read =
     let end : option_map (λ more. made ++ more) (all_of f (items_view (drop n seen))) ≡ None =
     at_drop_more (λ vs. option_map (λ more. made ++ more) (all_of f (items_view vs))) seen n v below ∙ rw head refl in
     sym (read ∙ end) ∙ ap (λ vs. all_of f (items_view vs)) same ∙ ap (option_and_then (all_of f)) is
+
+-- a list of another length than 1 has no sole item
+pub sole_item-other : (vs : List Value) → (length vs ≡ 1 → ⊥) → None ≡ sole_item (items_view vs)
+sole_item-other [] other = refl
+sole_item-other (v ∷ []) other = absurd (other refl)
+sole_item-other (v ∷ w ∷ vs) other = refl

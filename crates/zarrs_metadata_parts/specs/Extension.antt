@@ -35,6 +35,10 @@ named text = record { name = text; configuration = None; must_understand = true 
 abbrev pub extension_with_member : List ℕ → List ℕ → Data → ExtensionData
 extension_with_member name key d = record { name = name; configuration = Some (member key d no_members); must_understand = true }
 
+-- the one member of a configuration, if it has this name
+abbrev pub only_member : List ℕ → Members → Option Data
+only_member name ms = if has_only (name ∷ []) ms then get_member name ms else None
+
 -- ---- what a JSON value says
 
 -- an absent configuration is none, and so is an empty one

@@ -25,7 +25,7 @@ pub struct MetadataV3 {
 }
 
 impl MetadataV3 {
-    ghost use Rattle.zarrs_metadata_parts.specs.Extension.{extension_view};
+    ghost use Rattle.zarrs_metadata_parts.specs.Extension.{extension_view, only_member};
 
     /// Makes an extension without configuration, which must be understood.
     pub fn new(name: String) -> MetadataV3
@@ -107,6 +107,17 @@ impl MetadataV3 {
             Some(members) => have_only(members, names),
             None => true,
         }
+    }
+
+    /// Returns the one member of the configuration, if it has this name.
+    pub fn only_member(&self, name: &str) -> Option<&Value>
+        ensures { option_map (λ value. view value.now) result
+            ≡ only_member name.now (settings (extension_view self.now)) }
+    {
+        if !self.has_only(&[name]) {
+            return None;
+        }
+        self.member(name)
     }
 
     /// Puts the member into the configuration, in place of a present one of that name.

@@ -23,6 +23,9 @@ pub use data_type::DataTypeMetadataV2;
 pub use error::{MetadataError, PluginCreateError};
 pub use extension::MetadataV3;
 pub use fill_value::FillValueMetadata;
-pub use lists::{numbers, numbers_value};
+pub use lists::{
+    extensions, extensions_value, numbers, numbers_value, one_item, size, sizes, sizes_value,
+    sole_item,
+};
 pub use separators::ChunkKeySeparator;
 pub use types_v2::{EndianV2, KindV2, TypeV2};

@@ -1,22 +1,17 @@
 -- The document that is written reads as what was written.
-use Rattle.std.proofs.Common.{◌≡◌, ℕ, List, map, Option, Some, None, true, option_and_then, codes, refl, sym, ap, ◌∙◌, arith}
-use Rattle.std.proofs.lemmas.Bool.{ne_eqb}
-use Rattle.std.specs.Int.NonZero.{non_zero_u64_get}
-use Rattle.std.specs.declared.num.NonZeroU64.{NonZeroU64}
-use Rattle.serde_json.specs.Data.{Data, string, array, object, Members, no_members, member}
+use Rattle.std.proofs.Common.{◌≡◌, ℕ, List, Option, Some, None, true, option_and_then, codes, refl, ap, ◌∙◌}
+use Rattle.serde_json.specs.Data.{Data, string, object, Members, no_members, member}
 use Rattle.serde_json.specs.Find.{get_member, as_str}
-use Rattle.serde_json.specs.View.{items_of}
-use Rattle.zarrs_metadata_parts.specs.Lists.{number_data, numbers_of, numbers_data}
+use Rattle.zarrs_metadata_parts.specs.Lists.{number_data, numbers_of, numbers_data, list_of, size_said}
 use Rattle.zarrs_metadata_parts.specs.Separator.{separator_of, separator_data}
 use Rattle.zarrs_metadata_parts.specs.declared.separators.ChunkKeySeparator.{ChunkKeySeparator}
 use Rattle.zarrs_metadata_parts.specs.declared.separators.ChunkKeySeparator.TheVariants.{Slash, Dot}
-use Rattle.zarrs_metadata_parts.proofs.ListLemmas.{all_of-items_of, numbers_of-numbers_data}
-use Rattle.zarrs_metadata_v3.specs.Members.{put_some, put_all, list_in, members_in, object_data, reads_as_number}
-use Rattle.zarrs_metadata_v3.proofs.ListLemmas.{map_both}
+use Rattle.zarrs_metadata_parts.proofs.ListLemmas.{numbers_of-numbers_data}
+use Rattle.zarrs_metadata_v3.specs.Members.{put_some, put_all, members_in, object_data, reads_as_number}
 use Rattle.zarrs_metadata_v3.proofs.MemberLemmas.{get_member-put_all}
 use Rattle.zarrs_metadata_v2.specs.declared.order.ArrayMetadataV2Order.{ArrayMetadataV2Order}
 use Rattle.zarrs_metadata_v2.specs.declared.order.ArrayMetadataV2Order.TheVariants.{C, F}
-use Rattle.zarrs_metadata_v2.specs.Document.{DocumentV2Data, non_zero_size, chunk_order_of, dimension_separator_in, document_v2_in, document_v2_of, order_data, document_v2_members, data_v2_with, data_of_v2, without_attributes}
+use Rattle.zarrs_metadata_v2.specs.Document.{DocumentV2Data, chunk_order_of, dimension_separator_in, document_v2_in, document_v2_of, order_data, document_v2_members, data_v2_with, data_of_v2, without_attributes}
 
 -- ---- written one after the other
 
@@ -39,7 +34,7 @@ written_in_turn attributes m m_zarr_format m_shape m_chunks m_dtype m_compressor
 -- ---- what a written document reads as
 
 pub document_in_all : (ms : Members) (m : DocumentV2Data)
-    → option_and_then numbers_of (get_member (codes "shape") ms) ≡ Some m.shape → list_in non_zero_size (get_member (codes "chunks") ms) ≡ Some m.chunks → option_and_then as_str (get_member (codes "dtype") ms) ≡ Some m.dtype
+    → option_and_then numbers_of (get_member (codes "shape") ms) ≡ Some m.shape → option_and_then (list_of size_said) (get_member (codes "chunks") ms) ≡ Some m.chunks → option_and_then as_str (get_member (codes "dtype") ms) ≡ Some m.dtype
     → get_member (codes "compressor") ms ≡ Some m.compressor → get_member (codes "fill_value") ms ≡ Some m.fill_value → option_and_then chunk_order_of (get_member (codes "order") ms) ≡ Some m.order → get_member (codes "filters") ms ≡ Some m.filters
     → dimension_separator_in (get_member (codes "dimension_separator") ms) ≡ Some m.dimension_separator → members_in (get_member (codes "attributes") ms) ≡ Some m.attributes → document_v2_in ms ≡ Some m
 unfolding document_v2_in
@@ -57,16 +52,7 @@ attributes_back : (ms : Members) → members_in (object_data ms) ≡ Some ms
 attributes_back no_members = refl
 attributes_back (member key d ms) = refl
 
-size_back : (size : NonZeroU64) → non_zero_size (number_data (non_zero_u64_get size)) ≡ Some (non_zero_u64_get size)
-size_back size = let some = size.ok in rw (ne_eqb size.value 0 (λ z. absurd (omega arith))) refl
-
--- sizes of chunks are read again
-pub sizes_back : (sizes : List NonZeroU64) → list_in non_zero_size (Some (numbers_data (map non_zero_u64_get sizes))) ≡ Some (map non_zero_u64_get sizes)
-sizes_back sizes =
-    ap (λ ds. list_in non_zero_size (Some (array (items_of ds)))) (sym (map_both number_data non_zero_u64_get sizes))
-    ∙ all_of-items_of non_zero_size (λ size. number_data (non_zero_u64_get size)) non_zero_u64_get size_back sizes
-
-pub data_v2_with_back : (m : DocumentV2Data) → list_in non_zero_size (Some (numbers_data m.chunks)) ≡ Some m.chunks → document_v2_of (data_of_v2 m) ≡ Some m
+pub data_v2_with_back : (m : DocumentV2Data) → option_and_then (list_of size_said) (Some (numbers_data m.chunks)) ≡ Some m.chunks → document_v2_of (data_of_v2 m) ≡ Some m
 unfolding data_v2_with
 data_v2_with_back m sizes =
     let es = document_v2_members (object_data m.attributes) m in
@@ -75,7 +61,7 @@ data_v2_with_back m sizes =
     let format : reads_as_number 2 (get_member (codes "zarr_format") ms) ≡ true = ap (reads_as_number 2) (found (codes "zarr_format")) in
     let read = document_in_all ms m
     (ap (option_and_then numbers_of) (found (codes "shape")) ∙ numbers_of-numbers_data m.shape)
-    (ap (list_in non_zero_size) (found (codes "chunks")) ∙ sizes)
+    (ap (option_and_then (list_of size_said)) (found (codes "chunks")) ∙ sizes)
     (ap (option_and_then as_str) (found (codes "dtype")))
     (found (codes "compressor"))
     (found (codes "fill_value"))

@@ -1,5 +1,5 @@
 -- The V2 document of an array (Zarr V2 storage specification, arrays and attributes), and the JSON values that read as one.
-use Rattle.std.specs.Prelude.{◌≡◌, ◌≤◌, ℕ, List, [], ◌∷◌, ◌==◌, false, bytes_eq, codes, if◌then◌else◌, Option, Some, None, option_and_then}
+use Rattle.std.specs.Prelude.{◌≡◌, ◌≤◌, ℕ, List, [], ◌∷◌, false, bytes_eq, codes, if◌then◌else◌, Option, Some, None, option_and_then}
 use Rattle.std.specs.Str.{IsUtf8}
 use Rattle.json.specs.Lex.{tokens}
 use Rattle.json.specs.Layout.{pretty}
@@ -7,12 +7,12 @@ use Rattle.serde_json.specs.Data.{Data, depth, string, object, Members, no_membe
 use Rattle.serde_json.specs.Find.{get_member, as_str, as_object}
 use Rattle.serde_json.specs.Written.{has_float, IsInOrder}
 use Rattle.serde_json.specs.Read.{read, max_depth}
-use Rattle.zarrs_metadata_parts.specs.Lists.{number_of, numbers_of, numbers_data, number_data}
+use Rattle.zarrs_metadata_parts.specs.Lists.{list_of, numbers_of, numbers_data, number_data, size_said}
 use Rattle.zarrs_metadata_parts.specs.Extension.{◌>>=◌}
 use Rattle.zarrs_metadata_parts.specs.Separator.{separator_of, separator_data}
 use Rattle.zarrs_metadata_parts.specs.declared.separators.ChunkKeySeparator.{ChunkKeySeparator}
 use Rattle.zarrs_metadata_parts.specs.declared.separators.ChunkKeySeparator.TheVariants.{Dot}
-use Rattle.zarrs_metadata_v3.specs.Members.{value_said, reads_as_number, list_in, members_in, object_data, put_all}
+use Rattle.zarrs_metadata_v3.specs.Members.{value_said, reads_as_number, members_in, object_data, put_all}
 use Rattle.zarrs_metadata_v2.specs.declared.order.ArrayMetadataV2Order.{ArrayMetadataV2Order}
 use Rattle.zarrs_metadata_v2.specs.declared.order.ArrayMetadataV2Order.TheVariants.{C, F}
 
@@ -47,10 +47,6 @@ without_attributes m = record m { attributes = no_members }
 
 -- ---- read
 
--- a size of a chunk is not 0
-abbrev pub non_zero_size : Data → Option ℕ
-non_zero_size d = option_and_then (λ n. if n == 0 then None else Some n) (number_of d)
-
 abbrev pub order_named : List ℕ → Option ArrayMetadataV2Order
 order_named text = if bytes_eq text (codes "C") then Some C else (if bytes_eq text (codes "F") then Some F else None)
 
@@ -67,7 +63,7 @@ dimension_separator_in (Some d) = separator_of d
 unfoldable pub document_v2_in : Members → Option DocumentV2Data
 document_v2_in ms = do
   shape ← option_and_then numbers_of (get_member (codes "shape") ms)
-  chunks ← list_in non_zero_size (get_member (codes "chunks") ms)
+  chunks ← option_and_then (list_of size_said) (get_member (codes "chunks") ms)
   dtype ← option_and_then as_str (get_member (codes "dtype") ms)
   compressor ← get_member (codes "compressor") ms
   fill_value ← get_member (codes "fill_value") ms

@@ -18,5 +18,4 @@ mod writing;
 pub use document::ArrayMetadataV2;
 pub use order::ArrayMetadataV2Order;
 pub use text::attributes_from_slice;
-pub use writing::sizes_value;
 pub use zarrs_metadata_parts::DataTypeMetadataV2;

@@ -4,10 +4,9 @@ ghost use Rattle.std.specs.Int.NonZero.{non_zero_u64_get};
 ghost use Rattle.serde_json.specs.Data.{Members};
 ghost use Rattle.serde_json.specs.Find.{as_str};
 ghost use Rattle.serde_json.specs.View.{view, items_view, members_view};
-ghost use Rattle.zarrs_metadata_parts.specs.Lists.{all_of};
-ghost use Rattle.zarrs_metadata_v3.specs.Members.{list_in};
+ghost use Rattle.zarrs_metadata_parts.specs.Lists.{list_of, size_said, sizes_of};
 ghost use Rattle.zarrs_metadata_v3.specs.Refusals.{Reads};
-ghost use Rattle.zarrs_metadata_v2.specs.Document.{non_zero_size, chunk_order_of, dimension_separator_in};
+ghost use Rattle.zarrs_metadata_v2.specs.Document.{chunk_order_of, dimension_separator_in};
 ghost use Rattle.zarrs_metadata_v2.specs.Document.{document_v2_in, document_v2_from};
 ghost use Rattle.zarrs_metadata_v2.specs.View.{document_v2_view, AreParts};
 
@@ -16,7 +15,7 @@ use crate::order::ArrayMetadataV2Order;
 use serde_json::{Map, Value};
 use std::alloc::{AllocError, Global};
 use std::num::NonZeroU64;
-use zarrs_metadata_parts::{ChunkKeySeparator, DataTypeMetadataV2};
+use zarrs_metadata_parts::{ChunkKeySeparator, DataTypeMetadataV2, sizes};
 use zarrs_metadata_v3::Unread;
 use zarrs_metadata_v3::members::{
     attributes_in, fault, fill_value_in, numbers_in, present, reads_as_number, take_member,
@@ -98,35 +97,13 @@ impl Parts {
     }
 }
 
-fn size_from(value: &Value) -> Option<NonZeroU64>
-    ensures { option_map non_zero_u64_get result ≡ non_zero_size (view value.now) }
-{
-    NonZeroU64::new(value.as_u64()?)
-}
-
-fn all_sizes(alloc: Global, items: Vec<Value>) -> Result<Option<Vec<NonZeroU64>>, AllocError>
-    ensures { IfOk result (λ o. option_map (λ v. map non_zero_u64_get v.items) o
-        ≡ all_of non_zero_size (items_view items.items)) }
-{
-    let mut sizes = Vec::with_capacity(alloc, items.len())?;
-    for item in items {
-        match size_from(&item) {
-            Some(size) => sizes.push(size)?,
-            None => return Ok(None),
-        }
-    }
-    Ok(Some(sizes))
-}
-
 fn sizes_in(alloc: Global, member: Option<Value>) -> Result<Vec<NonZeroU64>, Unread>
-    ensures { Reads (λ v. map non_zero_u64_get v.items)
-        (list_in non_zero_size (option_map view member)) result }
+    ensures { Reads (λ v. sizes_of v.items)
+        (option_and_then (list_of size_said) (option_map view member)) result }
 {
+    let value = present(member, "chunks")?;
     let wrong = Unread::Wrong("chunks", "is no list of whole numbers from 1 to 2^64 - 1");
-    match present(member, "chunks")? {
-        Value::Array(items) => all_sizes(alloc, items)?.ok_or(wrong),
-        _ => Err(wrong),
-    }
+    sizes(alloc, &value)?.ok_or(wrong)
 }
 
 fn data_type_in(member: Option<Value>) -> Result<DataTypeMetadataV2, Unread>

@@ -1,16 +1,13 @@
 //! Writing a V2 document as a JSON value, member by member.
-ghost use Rattle.std.specs.Prelude.{◌≡◌, map, option_map, IfOk, Some};
-ghost use Rattle.std.specs.Int.NonZero.{non_zero_u64_get};
+ghost use Rattle.std.specs.Prelude.{◌≡◌, option_map, IfOk, Some};
 ghost use Rattle.serde_json.specs.View.{view};
-ghost use Rattle.zarrs_metadata_parts.specs.Lists.{numbers_data};
 ghost use Rattle.zarrs_metadata_v2.specs.Document.{document_v2_of, without_attributes, data_v2_with, data_of_v2};
 ghost use Rattle.zarrs_metadata_v2.specs.View.{document_v2_view};
 
 use crate::document::ArrayMetadataV2;
 use serde_json::{Map, Value};
 use std::alloc::{AllocError, Global};
-use std::num::NonZeroU64;
-use zarrs_metadata_parts::numbers_value;
+use zarrs_metadata_parts::{numbers_value, sizes_value};
 use zarrs_metadata_v3::members::{object_value, put_member, put_written};
 
 /// Returns the JSON value of a document.
@@ -54,7 +51,7 @@ fn value_with(
         &mut members,
         alloc,
         "chunks",
-        sizes_value(alloc, &document.chunks),
+        sizes_value(alloc, document.chunks.as_slice()),
     )?;
     put_written(&mut members, alloc, "dtype", document.dtype.to_value(alloc))?;
     put_written(
@@ -75,15 +72,4 @@ fn value_with(
     put_written(&mut members, alloc, "dimension_separator", separator)?;
     put_member(&mut members, alloc, "attributes", attributes)?;
     Ok(Value::Object(members))
-}
-
-/// Returns the list of these sizes as a value.
-pub fn sizes_value(alloc: Global, sizes: &Vec<NonZeroU64>) -> Result<Value, AllocError>
-    ensures { IfOk result (λ v. view v ≡ numbers_data (map non_zero_u64_get sizes.now.items)) }
-{
-    let mut values = Vec::with_capacity(alloc, sizes.len())?;
-    for size in sizes {
-        values.push(Value::from(size.get()))?;
-    }
-    Ok(Value::Array(values))
 }

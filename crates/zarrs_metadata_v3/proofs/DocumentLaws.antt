@@ -1,6 +1,6 @@
 -- The document that is written reads as what was written.
 use Rattle.std.proofs.Common.{◌≡◌, ℕ, List, [], ◌∷◌, map, Bool, true, false, Option, Some, None, option_map, option_and_then, codes, refl, ap, ◌∙◌}
-use Rattle.serde_json.specs.Data.{Data, string, object, Members, no_members, member}
+use Rattle.serde_json.specs.Data.{string, object, Members, no_members, member}
 use Rattle.serde_json.specs.Find.{get_member}
 use Rattle.zarrs_metadata_parts.specs.Members.{is_named, besides}
 use Rattle.zarrs_metadata_v3.specs.Members.{put_some, put_all, list_in, members_in, object_data, reads_as_number, reads_as_text}

@@ -6,7 +6,7 @@ use Rattle.serde_json.specs.Data.{no_members, member, put}
 use Rattle.serde_json.specs.Find.{get_member, as_array, as_bool, as_object, as_str}
 use Rattle.serde_json.proofs.Views.{get_member-put}
 use Rattle.zarrs_metadata_parts.specs.Members.{is_named, has_only, besides, nonempty}
-use Rattle.zarrs_metadata_parts.specs.Lists.{all_of, numbers_of}
+use Rattle.zarrs_metadata_parts.specs.Lists.{all_of, list_of, numbers_of}
 use Rattle.zarrs_metadata_parts.specs.Extension.{ExtensionData, named, normal, extension_of, extension_names, configuration_from, must_understand_from}
 use Rattle.zarrs_metadata_v3.specs.Members.{list_in, members_in}
 use Rattle.zarrs_metadata_v3.specs.Fields.{FieldData, flag_names, is_unneeded, field_of, normal_field, fields_of, normal_fields}
@@ -76,7 +76,10 @@ all_normal (item d ds) es h =
     subst (λ x. map normal x ≡ x) rest.2 (ap (λ x. x ∷ map normal more) (extension_normal d a first.1) ∙ ap (λ xs. a ∷ xs) (all_normal ds more rest.1))
 
 list_normal : (o : Option Data) (es : List ExtensionData) → list_in extension_of o ≡ Some es → map normal es ≡ es
-list_normal o es h = let found = bind_some (all_of extension_of) (option_and_then as_array o) es h in all_normal found.0 es found.2
+list_normal o es h =
+    let said = bind_some (list_of extension_of) o es h in
+    let found = bind_some (all_of extension_of) (as_array said.0) es said.2 in
+    all_normal found.0 es found.2
 
 transformers_normal : (o : Option Data) (es : List ExtensionData) → transformers_in o ≡ Some es → map normal es ≡ es
 transformers_normal None es h = let is : [] ≡ es = cc in subst (λ x. map normal x ≡ x) is refl

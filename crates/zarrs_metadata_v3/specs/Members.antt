@@ -2,10 +2,10 @@
 use Rattle.std.specs.Prelude.{ℕ, List, [], ◌∷◌, ◌==◌, Bool, false, bytes_eq, if◌then◌else◌, Option, Some, None, option_map, option_and_then, unwrap_or}
 use Rattle.std.specs.Str.{is_utf8}
 use Rattle.serde_json.specs.Data.{Data, object, Members, no_members, put}
-use Rattle.serde_json.specs.Find.{as_str, as_array, as_object}
+use Rattle.serde_json.specs.Find.{as_str, as_object}
 use Rattle.serde_json.specs.Read.{read}
 use Rattle.zarrs_metadata_parts.specs.Members.{nonempty}
-use Rattle.zarrs_metadata_parts.specs.Lists.{all_of, number_of}
+use Rattle.zarrs_metadata_parts.specs.Lists.{list_of, number_of}
 
 -- ---- read
 
@@ -23,7 +23,7 @@ reads_as_number n o = unwrap_or (option_map (λ m. m == n) (option_and_then numb
 
 -- the list of what each item of the member reads as
 abbrev pub list_in : {A : Type 0} → (Data → Option A) → Option Data → Option (List A)
-list_in f o = option_and_then (all_of f) (option_and_then as_array o)
+list_in f o = option_and_then (list_of f) o
 
 -- the members of an object; an absent object is empty
 abbrev pub members_in : Option Data → Option Members

@@ -21,7 +21,7 @@ use crate::members::{
 use crate::unread::Unread;
 use serde_json::{Map, Value};
 use std::alloc::{AllocError, Global};
-use zarrs_metadata_parts::MetadataV3;
+use zarrs_metadata_parts::{MetadataV3, extensions};
 
 /// The members of a document.
 #[derive(Drop)]
@@ -138,20 +138,6 @@ fn extension_in(member: Option<Value>, name: &'static str) -> Result<MetadataV3,
     MetadataV3::from_value(value).map_err(|_| Unread::Wrong(name, "is no extension point"))
 }
 
-fn all_extensions(alloc: Global, items: Vec<Value>) -> Result<Option<Vec<MetadataV3>>, AllocError>
-    ensures { IfOk result (λ o. option_map (λ v. map extension_view v.items) o
-        ≡ all_of extension_of (items_view items.items)) }
-{
-    let mut extensions = Vec::new(alloc);
-    for item in items {
-        match MetadataV3::from_value(item) {
-            Ok(extension) => extensions.push(extension)?,
-            Err(_) => return Ok(None),
-        }
-    }
-    Ok(Some(extensions))
-}
-
 fn extensions_in(
     alloc: Global,
     member: Option<Value>,
@@ -160,11 +146,8 @@ fn extensions_in(
     ensures { Reads (λ v. map extension_view v.items) (list_in extension_of (option_map view member))
         result }
 {
-    let wrong = Unread::Wrong(name, "is no list of extension points");
-    match present(member, name)? {
-        Value::Array(items) => all_extensions(alloc, items)?.ok_or(wrong),
-        _ => Err(wrong),
-    }
+    let value = present(member, name)?;
+    extensions(alloc, value)?.ok_or(Unread::Wrong(name, "is no list of extension points"))
 }
 
 fn transformers_in(alloc: Global, member: Option<Value>) -> Result<Vec<MetadataV3>, Unread>

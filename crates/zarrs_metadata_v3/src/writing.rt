@@ -12,7 +12,7 @@ use crate::members::{object_value, put_member, put_written};
 use crate::reading::other_members;
 use serde_json::Value;
 use std::alloc::{AllocError, Global};
-use zarrs_metadata_parts::{MetadataV3, numbers_value};
+use zarrs_metadata_parts::{MetadataV3, extensions_value, numbers_value};
 
 /// Returns the JSON value of a document.
 pub(crate) fn document_value(alloc: Global, document: &ArrayMetadataV3) -> Result<Value, AllocError>
@@ -42,17 +42,6 @@ pub(crate) fn document_value(alloc: Global, document: &ArrayMetadataV3) -> Resul
     let names = names_member(alloc, &document.dimension_names)?;
     put_member(&mut members, alloc, "dimension_names", names)?;
     Ok(Value::Object(members))
-}
-
-fn extensions_value(alloc: Global, extensions: &Vec<MetadataV3>) -> Result<Value, AllocError>
-    ensures { IfOk result (λ v. view v
-        ≡ list_data extension_data (map extension_view extensions.now.items)) }
-{
-    let mut values = Vec::new(alloc);
-    for extension in extensions {
-        values.push(extension.to_value(alloc)?)?;
-    }
-    Ok(Value::Array(values))
 }
 
 fn name_value(alloc: Global, name: &DimensionName) -> Result<Value, AllocError>

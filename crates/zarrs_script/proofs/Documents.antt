@@ -1,6 +1,6 @@
 -- The document of the parts of an array says them.
-use Rattle.std.proofs.Common.{◌≡◌, ℕ, List, ◌<◌, get_or, Bool, true, cond, Some, None, Ok, refl, ap, ◌∙◌}
-use Rattle.std.specs.Prelude.{IsSome, option_and_then}
+use Rattle.std.proofs.Common.{◌≡◌, ℕ, List, Bool, true, cond, Some, None, Ok, refl, ap, ◌∙◌}
+use Rattle.std.specs.Prelude.{option_and_then}
 use Rattle.serde_json.specs.Data.{Data}
 use Rattle.zarrs_metadata_parts.specs.Extension.{ExtensionData}
 use Rattle.zarrs_metadata_parts.specs.declared.separators.ChunkKeySeparator.TheVariants.{Slash}
@@ -14,7 +14,6 @@ use Rattle.zarrs_chunk_grid.specs.declared.grid.ChunkGrid.TheVariants.{Regular}
 use Rattle.zarrs_chunk_grid.specs.declared.regular.RegularChunkGrid.{RegularChunkGrid}
 use Rattle.zarrs_chunk_grid.proofs.ConfigurationLemmas.{own_taken}
 use Rattle.zarrs_chunk_grid.proofs.MetadataLemmas.{said_back}
-use Rattle.zarrs_data_type.specs.Cell.{fill_cell}
 use Rattle.zarrs_data_type.specs.FillMetadata.{fill_said, fill_written}
 use Rattle.zarrs_data_type.specs.Kind.{Kind, kind}
 use Rattle.zarrs_data_type.specs.Kind as type

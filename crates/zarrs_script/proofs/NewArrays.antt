@@ -10,7 +10,7 @@ use Rattle.std.proofs.lemmas.List.{take_more, map_push}
 use Rattle.std.proofs.lemmas.List.Folds.{list_any_at}
 use Rattle.zarrs_storage.specs.Memory.{MemoryState, open_state}
 use Rattle.zarrs_metadata_parts.specs.declared.separators.ChunkKeySeparator.TheVariants.{Slash}
-use Rattle.zarrs_chunk_grid.specs.Axes.{sizes_of}
+use Rattle.zarrs_metadata_parts.specs.Lists.{sizes_of}
 use Rattle.zarrs_chunk_grid.specs.Configurations.{regular, takes_shape, GridConfiguration}
 use Rattle.zarrs_data_type.specs.Kind.{Kind}
 use Rattle.serde_json.specs.Written.{has_float}

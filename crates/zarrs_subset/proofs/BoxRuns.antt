@@ -1,12 +1,11 @@
 -- The runs that copy a box copy its cells.
-use Rattle.std.proofs.Common.{◌≡◌, ◌≢◌, ℕ, zero, suc, ◌+◌, ◌-◌, ◌*◌, ◌/◌, ◌%◌, ◌<◌, ◌≤◌, ◌↔◌, min, max, true, false}
+use Rattle.std.proofs.Common.{◌≡◌, ◌≢◌, ℕ, zero, suc, ◌+◌, ◌-◌, ◌*◌, ◌/◌, ◌<◌, ◌≤◌, true, false}
 use Rattle.std.proofs.Common.{List, [], ◌∷◌, length, take, drop, slice_index, get_or, refl, sym, ap, ◌∙◌, arith, inl}
 use Rattle.std.proofs.Common.{inr}
 use Rattle.std.proofs.Math.Nat.{mul-le-mul_right, mul_assoc, add-mul}
-use Rattle.std.proofs.lemmas.Nat.{div-mul-add, mod-mul-add}
+use Rattle.std.proofs.lemmas.Nat.{div-mul-add}
 use Rattle.std.proofs.lemmas.List.{drop_more, drop_all}
 use Rattle.std.proofs.lemmas.Bool.{cases_Bool, false≢true}
-use Rattle.zarrs_subset.specs.declared.runs.Stride.{Stride}
 use Rattle.zarrs_subset.specs.declared.runs.Runs.{Runs}
 use Rattle.zarrs_subset.specs.Boxes.{position_count, InShape, place, unravel, BoxFits, is_within, moved, offset_from, offset_by}
 use Rattle.zarrs_subset.specs.Cells.{BoxCopied}
@@ -14,7 +13,7 @@ use Rattle.zarrs_subset.specs.Strides.{Reaches, RunsCopied}
 use Rattle.zarrs_subset.specs.Plans.{dimension_strides, strides_of, IsPlan}
 use Rattle.zarrs_subset.proofs.Kernel.{in_block}
 use Rattle.zarrs_subset.proofs.Overlaps.{AllSome}
-use Rattle.zarrs_subset.proofs.Counts.{length-InShape, count_drop, count_some, AllSome-drop}
+use Rattle.zarrs_subset.proofs.Counts.{length-InShape, count_drop, count_some}
 use Rattle.zarrs_subset.proofs.Positions.{unravel-place, in_box-offset_by, offset_from-in, offset_by-from}
 use Rattle.zarrs_subset.proofs.Joined.{length_shape, count_split}
 use Rattle.zarrs_subset.proofs.Nothing.{length_fits}
@@ -53,9 +52,6 @@ place_same shape p q i j same = sym (unravel-place shape p i) ∙ ap (λ k. unra
 
 same_cell : (a b size k l : ℕ) → k < size → l < size → a * size + k ≡ b * size + l → a ≡ b
 same_cell a b size k l h i same = sym (div-mul-add a size k h) ∙ ap (λ n. n / size) same ∙ div-mul-add b size l i
-
-same_byte : (a b size k l : ℕ) → k < size → l < size → a * size + k ≡ b * size + l → k ≡ l
-same_byte a b size k l h i same = sym (mod-mul-add a size k h) ∙ ap (λ n. n % size) same ∙ mod-mul-add b size l i
 
 -- ---- the bytes that a stride for each dimension reaches
 

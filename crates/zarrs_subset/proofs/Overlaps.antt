@@ -4,7 +4,7 @@ use Rattle.std.proofs.Common.{◌∷◌, length, get_or, slice_index, refl, arit
 use Rattle.std.proofs.lemmas.Bool.{cases_lt}
 use Rattle.std.proofs.lemmas.Bool.Decides.{nat_tests}
 use Rattle.std.proofs.lemmas.List.{get_or_past, get_or_read}
-use Rattle.zarrs_subset.specs.Boxes.{InShape, in_range, is_within, zip_with, ends, EndsFit, overlap_start, overlap_extents, offset_by}
+use Rattle.zarrs_subset.specs.Boxes.{in_range, is_within, zip_with, ends, EndsFit, overlap_start, overlap_extents}
 
 pub length-zip_with : (f : ℕ → ℕ → ℕ) (xs ys : List ℕ) → length xs ≡ length ys → length (zip_with f xs ys) ≡ length xs
 length-zip_with f [] [] h = refl

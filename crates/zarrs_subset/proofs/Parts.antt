@@ -1,5 +1,5 @@
 -- Lemmas of a part's cells that go to their places in the cells of a box.
-use Rattle.std.proofs.Common.{◌≡◌, ℕ, zero, suc, ◌+◌, ◌-◌, ◌*◌, ◌<◌, ◌≤◌, true, false, ◌&&◌, nat_lt, nat_le, min, max}
+use Rattle.std.proofs.Common.{◌≡◌, ℕ, zero, suc, ◌+◌, ◌-◌, ◌*◌, ◌<◌, ◌≤◌, true, false, nat_lt, nat_le, min, max}
 use Rattle.std.proofs.Common.{List, [], ◌∷◌, length, map, slice_index, slice_get, if◌then◌else◌, Some, refl, sym, ap}
 use Rattle.std.proofs.Common.{◌∙◌, arith, inl, inr}
 use Rattle.std.specs.Option.{option_map}

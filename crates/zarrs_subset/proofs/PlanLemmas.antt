@@ -1,13 +1,12 @@
 -- Lemmas of the runs that copy a box, one dimension more.
-use Rattle.std.proofs.Common.{◌≡◌, ℕ, zero, suc, ◌+◌, ◌-◌, ◌*◌, ◌/◌, ◌%◌, ◌^◌, ◌<◌, ◌≤◌, ◌↔◌, List, [], ◌∷◌, length}
+use Rattle.std.proofs.Common.{◌≡◌, ℕ, ◌+◌, ◌-◌, ◌*◌, ◌/◌, ◌%◌, ◌^◌, ◌<◌, ◌≤◌, ◌↔◌, List, [], ◌∷◌, length}
 use Rattle.std.proofs.Common.{drop, slice_set, refl, sym, ap, ◌∙◌, arith}
 use Rattle.std.proofs.Math.Nat.{mul-le-mul_right, mul-le-mul_left, add-mul, mul_comm, mul_assoc}
 use Rattle.std.proofs.lemmas.List.{drop-set}
 use Rattle.std.proofs.lemmas.Nat.{div_below, mod_below, div-add-mod', mul-add-lt, pow-add}
 use Rattle.zarrs_subset.specs.declared.runs.Stride.{Stride}
-use Rattle.zarrs_subset.specs.Boxes.{position_count, place}
+use Rattle.zarrs_subset.specs.Boxes.{place}
 use Rattle.zarrs_subset.specs.Strides.{Reaches, source_span, target_span, AreApart}
-use Rattle.zarrs_subset.specs.Plans.{dimension_strides}
 
 -- how the strides and the runs take one dimension more: the runs get longer, or there is one stride more, or nothing changes
 pub data Extends (e ss ts : ℕ) (strides : List Stride) (len used : ℕ) (strides' : List Stride) (len' used' : ℕ) : Type 0 where

@@ -1,11 +1,11 @@
 -- Lemmas of copies of runs of bytes.
-use Rattle.std.proofs.Common.{◌≡◌, ◌≢◌, ℕ, ◌+◌, ◌-◌, ◌*◌, ◌<◌, ◌≤◌, List, [], ◌∷◌, length, get_or, slice_range, refl}
-use Rattle.std.proofs.Common.{sym, ap, ◌∙◌, arith, inl, inr}
-use Rattle.std.proofs.Math.Nat.{mul-le-mul_right, add-mul}
+use Rattle.std.proofs.Common.{◌≡◌, ℕ, ◌+◌, ◌-◌, ◌*◌, ◌<◌, ◌≤◌, List, [], ◌∷◌, length, get_or, slice_range, refl}
+use Rattle.std.proofs.Common.{ap, ◌∙◌, arith, inl, inr}
+use Rattle.std.proofs.Math.Nat.{mul-le-mul_right}
 use Rattle.std.proofs.lemmas.Bool.{cases_lt, cases_eq}
 use borrow.Rule.Slice.PartMut.{put_mid}
 use Rattle.zarrs_subset.specs.declared.runs.Stride.{Stride}
-use Rattle.zarrs_subset.specs.Strides.{Reaches, source_span, target_span, RunsCopied}
+use Rattle.zarrs_subset.specs.Strides.{Reaches, target_span, RunsCopied}
 use Rattle.zarrs_subset.proofs.Kernel.{get_or-put_mid_inside, get_or-put_mid_below, get_or-put_mid_above, get_or-part, block_order}
 
 -- one run

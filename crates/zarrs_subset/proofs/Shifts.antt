@@ -1,5 +1,5 @@
 -- Boxes with an offset added to their start, and parts of chunks.
-use Rattle.std.proofs.Common.{◌≡◌, ℕ, zero, suc, ◌+◌, ◌<◌, ◌≤◌, ◌^◌, ◌↔◌, List, [], ◌∷◌, length, slice_index, refl, ap, ◌∙◌, sym, arith}
+use Rattle.std.proofs.Common.{◌≡◌, ℕ, ◌+◌, ◌<◌, ◌^◌, ◌↔◌, List, [], ◌∷◌, length, slice_index, refl, ◌∙◌, sym, arith}
 use Rattle.std.proofs.lemmas.Bool.Decides.{nat_tests}
 use Rattle.zarrs_subset.specs.Boxes.{EndsFit, InShape, in_range, is_within, zip_with, offset_by}
 use Rattle.zarrs_subset.specs.Regions.{Box, IsLong, Holds, LiesInShape, shifted_box}

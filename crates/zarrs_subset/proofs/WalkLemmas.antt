@@ -1,7 +1,7 @@
 -- Lemmas of a walk through the positions of a box.
 use Rattle.std.proofs.Common.{◌≡◌, ℕ, zero, suc, ◌+◌, ◌-◌, ◌*◌, ◌<◌, ◌≤◌, true, false, nat_lt, nat_le, List, [], ◌∷◌}
-use Rattle.std.proofs.Common.{◌++◌, length, drop, take, slice_index, Bool, is_none, if◌then◌else◌, Option, MatchOption}
-use Rattle.std.proofs.Common.{Some, None, add-one, refl, sym, ap, ◌∙◌, arith, SomeIndex, Result, Ok, Err, OnErr}
+use Rattle.std.proofs.Common.{◌++◌, length, drop, take, slice_index, Bool}
+use Rattle.std.proofs.Common.{add-one, refl, sym, ap, ◌∙◌, arith, SomeIndex, Result, Ok, Err, OnErr}
 use Rattle.std.proofs.Common.{append-nil, slice_set, inl, inr}
 use Rattle.std.proofs.Math.Nat.{add-mul}
 use Rattle.std.specs.Bool.{OnTrue, OnFalse}
@@ -9,7 +9,6 @@ use Rattle.std.specs.List.{refill}
 use Rattle.std.proofs.lemmas.List.{drop_all, drop_more, take_all}
 use Rattle.std.proofs.lemmas.Bool.{cases_eq, and_parts, and_from, ltb-true, leb-true, lt-ltb, le-leb, false≢true}
 use Rattle.std.proofs.lemmas.Option.{get_or_from_slice_get}
-use Rattle.smallvec.specs.SmallVec.{SmallVec}
 use Rattle.zarrs_subset.specs.Boxes.{position_count, place, in_range, is_within, offset_from}
 use Rattle.zarrs_subset.specs.Regions.{Box, IsLong, Holds, positions, place_in}
 use Rattle.zarrs_subset.proofs.Bytes.{place_in_below, holds_along}

@@ -1,5 +1,5 @@
 -- Row-major arrays of bytes, seen as cells of one size.
-use Rattle.std.specs.Prelude.{◌≡◌, ℕ, ◌+◌, ◌*◌, ◌<◌, true, List, slice_index, if◌then◌else◌}
+use Rattle.std.specs.Prelude.{◌≡◌, ℕ, ◌+◌, ◌*◌, ◌<◌, List, slice_index, if◌then◌else◌}
 use Rattle.zarrs_subset.specs.Pieces.{piece_at}
 use Rattle.zarrs_subset.specs.Boxes.{InShape, place, is_within, moved}
 

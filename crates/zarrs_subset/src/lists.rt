@@ -8,7 +8,7 @@ use crate::{ArrayIndices, ArrayShape};
 use std::alloc::{AllocError, Global};
 
 /// Whether some extent is 0.
-pub(crate) fn has_zero(extents: &[u64]) -> bool
+pub fn has_zero(extents: &[u64]) -> bool
     ensures { IsTrue result ↔ SomeIndex extents.now (λ k. slice_index extents.now k ≡ 0) }
 {
     extents.iter().any(|extent| *extent == 0)

@@ -19,9 +19,9 @@ fn memory_sizes(alloc: Global, extents: &[u64]) -> Result<Vec<usize>, AllocError
 
 impl<TStorage> Array<TStorage> {
     ghost use Rattle.std.specs.Prelude.{◌≡◌, length, IfOk, IfErr, OnOk, IfSome, IfNone};
-    ghost use Rattle.std.specs.Prelude.{IsOkUnless};
+    ghost use Rattle.std.specs.Prelude.{map, IsOkUnless};
     ghost use Rattle.zarrs_subset.specs.Regions.{box_of, bound_to, box_at_origin};
-    ghost use Rattle.zarrs_chunk_grid.specs.Axes.{sizes_of};
+    ghost use Rattle.std.specs.Int.NonZero.{non_zero_u64_get};
     ghost use Rattle.zarrs_chunk_grid.specs.Grids.{HasUncovered, IsMet, box_at, chunks_box, met};
     ghost use Rattle.zarrs_engine_calls.specs.ArgumentRefusals.{chunk_refusal};
     ghost use Rattle.zarrs_engine_calls.specs.Refusals.{RefusesBy, refusal_of};
@@ -87,7 +87,8 @@ impl<TStorage> Array<TStorage> {
         chunk_indices: &[u64],
     ) -> Result<ChunkShape, ArrayError>
         ensures { Answers (chunk_refusal (layout_of_array self.now) chunk_indices.now) (λ shape.
-            sizes_of shape.items ≡ (box_at (layout_of_array self.now).grid chunk_indices.now).shape)
+            map non_zero_u64_get shape.items
+            ≡ (box_at (layout_of_array self.now).grid chunk_indices.now).shape)
             result }
     {
         match self.engine.chunk_grid().chunk_shape(alloc, chunk_indices) {
@@ -114,8 +115,7 @@ impl<TStorage> Array<TStorage> {
             shape.items ≡ (box_at (layout_of_array self.now).grid chunk_indices.now).shape) result }
     {
         let chunk = self.chunk_subset(alloc, chunk_indices)?;
-        let shape = memory_sizes(alloc, chunk.shape())?;
-        Ok(shape)
+        Ok(memory_sizes(alloc, chunk.shape())?)
     }
 
     /// Returns the box of the chunk with these indices, cut at the end of the array.
@@ -236,7 +236,6 @@ impl<TStorage> Array<TStorage> {
             (λ b. box_of b ≡ box_at_origin (shape_said (metadata_of_array self.now))) }
         ensures accepted { IsOkUnless result ArrayError.OutOfMemory }
     {
-        let region = ArraySubset::new_with_shape(alloc, self.shape().to_vec(alloc)?)?;
-        Ok(region)
+        Ok(ArraySubset::new_with_shape(alloc, self.shape().to_vec(alloc)?)?)
     }
 }

@@ -67,8 +67,7 @@ impl<TStorage> Array<TStorage> {
     {
         let layout = self.engine.layout();
         let chunk = layout.chunk_box(alloc, chunk_indices)?;
-        let _ = layout.part_of(alloc, chunk_indices, &chunk, part)?;
-        Ok(())
+        layout.check_part(alloc, chunk_indices, chunk.shape(), part)
     }
 
     /// Does what `check_part` does, for whatever stands for the part.

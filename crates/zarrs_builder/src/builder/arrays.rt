@@ -7,12 +7,11 @@ ghost use Rattle.zarrs_builder.specs.Builders.{additional_fields_of};
 ghost use Rattle.zarrs_builder.specs.declared.builder.ArrayBuilder.{ArrayBuilder};
 
 use super::{ArrayBuilder, grid_field};
-use crate::copies::copied_codecs;
 use crate::fill_value::IntoFillValue;
 use serde_json::Map;
 use std::alloc::{AllocError, Global};
 use zarrs::Array;
-use zarrs_codec::CodecSpecificOptions;
+use zarrs_codec::{CodecSpecificOptions, copied_array_codecs};
 use zarrs_creation::fill_metadata;
 use zarrs_data_type::IntoField;
 use zarrs_metadata::{AdditionalFieldsV3, ArrayMetadata, DimensionName};
@@ -50,7 +49,7 @@ impl ArrayBuilder {
             dimension_names: Ok(dimension_names),
             subchunk_shape: Ok(None),
             chunk_key_encoding: array.chunk_key_encoding().clone()?,
-            array_to_array_codecs: copied_codecs(alloc, codecs.array_to_array_codecs())?,
+            array_to_array_codecs: copied_array_codecs(alloc, codecs.array_to_array_codecs())?,
             array_to_bytes_codec: Some(codecs.array_to_bytes_codec().try_clone(alloc)?),
             attributes: copied(array.attributes())?,
             additional_fields,

@@ -5,7 +5,7 @@ ghost use Rattle.zarrs_metadata_parts.specs.FillValue.{fill_data};
 ghost use Rattle.zarrs_chunk_grid.specs.GridView.{array_extents_of, configuration_of};
 ghost use Rattle.zarrs_data_type.specs.FillMetadata.{fill_said};
 ghost use Rattle.zarrs_data_type.specs.Kind.{kind};
-ghost use Rattle.zarrs_codec.specs.ShardingMetadata.{sizes_of};
+ghost use Rattle.zarrs_metadata_parts.specs.Lists.{sizes_of};
 ghost use Rattle.zarrs_codec.specs.Chains.{chain_data};
 ghost use Rattle.zarrs_metadata_v3.specs.View.{document_view};
 ghost use Rattle.zarrs_options.specs.Given.{grid_given};
@@ -15,7 +15,6 @@ ghost use Rattle.zarrs_builder.specs.Built.{chain_chosen, cut_into, grid_chosen}
 ghost use Rattle.zarrs_builder.specs.Built.{fill_stated, sizes_said};
 
 use super::ArrayBuilder;
-use crate::copies::copied_codecs;
 use crate::data_type::ArrayBuilderDataType;
 use crate::fill_value::ArrayBuilderFillValue;
 use std::alloc::{AllocError, Global};
@@ -24,7 +23,7 @@ use zarrs::Array;
 use zarrs_chunk_grid::{ChunkGrid, ChunkGridTraits, ChunkShape};
 use zarrs_codec::{
     ArrayToBytesCodec, BytesToBytesCodecs, CodecChain, ShardingCodec, ShardingIndexLocation,
-    default_array_to_bytes_codec,
+    copied_array_codecs, default_array_to_bytes_codec,
 };
 use zarrs_creation::{check_names, fill_metadata, grid_from};
 use zarrs_data_type::{DataType, FillValue};
@@ -179,7 +178,7 @@ impl ArrayBuilder {
         ensures { IfOk result (λ chain. chain_data chain
             ≡ codecs_chosen (builder_view self.now) (kind data_type.now)) }
     {
-        let front = copied_codecs(alloc, &self.array_to_array_codecs)?;
+        let front = copied_array_codecs(alloc, &self.array_to_array_codecs)?;
         let last = match &self.array_to_bytes_codec {
             Some(codec) => codec.try_clone(alloc)?,
             None => default_array_to_bytes_codec(alloc, data_type)?,

@@ -25,7 +25,7 @@ use Rattle.zarrs_codec_shard.proofs.Sizes.{part_size}
 use Rattle.zarrs_codec_chain.specs.Chain.{ChainMeaning}
 use Rattle.zarrs_codec_chain.specs.Refusals.{RefusesChunkDecoding}
 use Rattle.zarrs_codec.specs.Chains.{behind, chain_meaning, codec_meaning, inner_chain_of, is_at_start, location_of, sharding_meaning, subchunk_sizes_of}
-use Rattle.zarrs_codec_optional.specs.ShardingMetadata.{sizes_of}
+use Rattle.zarrs_metadata_parts.specs.Lists.{sizes_of}
 use Rattle.zarrs_codec.specs.ChainLaws.{chain-lawful, sharded-lawful}
 use Rattle.zarrs_codec.specs.Shardings.{decoded_parts, CopiesParts, HasFirstCells, ReadsCells, RefusesCells, RefusesCopies}
 use Rattle.zarrs_codec.proofs.CopiedParts.{some_first}

@@ -1,4 +1,4 @@
-use Rattle.zarrs_codec_optional.specs.ShardingMetadata.{sizes_of}
+use Rattle.zarrs_metadata_parts.specs.Lists.{sizes_of}
 use Rattle.zarrs_codec.specs.Chains.{subchunk_sizes_of}
 use Rattle.zarrs_codec_chain.specs.Chunks.{RefusesToEncode}
 use Rattle.zarrs_codec.proofs.Cuts.{cut_encoding}

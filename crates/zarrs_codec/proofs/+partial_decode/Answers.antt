@@ -5,7 +5,7 @@ use Rattle.std.specs.Prelude.{IsSome}
 use Rattle.std.proofs.lemmas.Bool.{eqb-true, false≢true}
 use Rattle.std.proofs.lemmas.Option.{slice_get_within}
 use Rattle.std.proofs.lemmas.Result.{IfErr-weaker, IfOk-weaker}
-use Rattle.zarrs_data_type.specs.ArrayData.{ArrayData, data_of}
+use Rattle.zarrs_data_type.specs.ArrayData.{data_of}
 use Rattle.zarrs_data_type.specs.RegionData.{region_data}
 use Rattle.zarrs_data_type.specs.Cells.{cells}
 use Rattle.zarrs_codec_chain.specs.Chain.{ChainMeaning}
@@ -18,7 +18,7 @@ use Rattle.zarrs_codec.proofs.Pieces.{piece_alone, piece_cells, piece_put}
 use Rattle.zarrs_codec.proofs.ShardReads.{large_share, own_refused, parts_decode, piece_of_share, read_places, sharded_unfit, small_share, subchunks_refused}
 use Rattle.zarrs_codec.proofs.WholeReads.{absent_decodes, alone_decodes, each_decodes, met_decode, none_decodes, ok_both, shared_decodes, unshared_decodes}
 use Rattle.zarrs_codec.proofs.WholeShards.{alone_some}
-use Rattle.zarrs_codec_optional.specs.ShardingMetadata.{sizes_of}
+use Rattle.zarrs_metadata_parts.specs.Lists.{sizes_of}
 use Rattle.zarrs_codec_chain.proofs.Kept.{err_kept}
 use Rattle.zarrs_codec_chain.proofs.OpenShards.{at_number, opened}
 use Rattle.zarrs_codec_chain.proofs.ReadSteps.{none_unfound, skip_absent, skip_none}
@@ -212,7 +212,7 @@ sharding::ShardingCodec::read_subchunk-returns-clause-read g t c =
     let dec = m.decoded k f r.sub in
     let has = rw c.in-Some.is at c.in_ok-piece.ensures.piece in
     let piece = c.in-Some.piece in
-    piece_put k dec f r.shape r.sub r.part (parts_of r) c.args.indices.now (box_of piece.shared) (data_of piece.cells) has _ _ c.in_ok-made.ensures
+    piece_put k dec f r.shape r.sub r.part (parts_of r) c.args.indices.now (box_of piece.shared) (data_of piece.cells) has _ _ c.in_ok-with_owned_part.ensures
 
 pub sharding::ShardingCodec::read_subchunk-returns-in_default-clause-read : goal.sharding::ShardingCodec::read_subchunk-returns-in_default-clause-read
 sharding::ShardingCodec::read_subchunk-returns-in_default-clause-read g t c =

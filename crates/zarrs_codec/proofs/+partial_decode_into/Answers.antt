@@ -19,7 +19,7 @@ use Rattle.zarrs_codec.proofs.SubchunksInto.{all_at, alone_at, last_walked, more
 use Rattle.zarrs_codec_chain.proofs.AllOfIt.{origin_box}
 use Rattle.zarrs_codec_shard.specs.Shards.{shard_parts}
 use Rattle.zarrs_codec_chain.specs.Parts.{DecodesInto, DecodesPartAt}
-use Rattle.zarrs_codec_optional.specs.ShardingMetadata.{sizes_of}
+use Rattle.zarrs_metadata_parts.specs.Lists.{sizes_of}
 use Rattle.zarrs_codec_chain.proofs.IntoSteps.{all_into, filled_part, own_box, own_in_region, own_outside, parts_more, same_decodes, same_keeps}
 use Rattle.zarrs_codec_chain.proofs.Kept.{err_kept}
 use Rattle.zarrs_codec_chain.proofs.MovedBoxes.{moved_box, moved_lies, moved_outside}

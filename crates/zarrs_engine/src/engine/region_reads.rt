@@ -57,8 +57,7 @@ impl<
             data_type,
             fill_value,
         } = &self.layout.cell_type;
-        let made = RegionCells::new_fill_value(alloc, data_type, count, fill_value)?;
-        Ok(made)
+        Ok(RegionCells::new_fill_value(alloc, data_type, count, fill_value)?)
     }
 
     /// Returns the cells that a chunk of this shape has of a part, seen from the origin of the chunk, or `None` if the

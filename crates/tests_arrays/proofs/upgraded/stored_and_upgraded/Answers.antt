@@ -4,10 +4,10 @@ use Rattle.zarrs_storage.specs.Memory.{MemoryState, open_state}
 use Rattle.zarrs_keys.specs.Paths.{is_node_path}
 use Rattle.zarrs_metadata_v2.specs.View.{document_v2_view}
 use Rattle.zarrs_metadata.specs.Versions.{MetadataData, metadata_view, v2}
-use Rattle.zarrs_options.specs.Options.{MetadataOptionsData, default_options, options_view}
+use Rattle.zarrs_options.specs.Options.{MetadataOptionsData, options_view}
 use Rattle.zarrs_creation.specs.Meanings.{Meaning, creation, meaning_with}
 use Rattle.zarrs_creation.specs.Opening.{v3_key}
-use Rattle.zarrs.specs.Arrays.{meaning_of_array, metadata_of_array, metadata_options_of_array, path_of_array, storage_of_array, store_of_array}
+use Rattle.zarrs.specs.Arrays.{meaning_of_array, metadata_of_array, metadata_options_of_array, path_of_array, store_of_array}
 use Rattle.zarrs.specs.Puts.{StoresMetadata}
 use Rattle.zarrs.specs.Upgrade.{OpensAs, StaysOpen, UpgradesMetadata}
 use Rattle.tests_arrays.proofs.UpgradedStores.{upgraded_opens}

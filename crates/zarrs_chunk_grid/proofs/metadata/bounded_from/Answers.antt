@@ -1,9 +1,7 @@
 use Rattle.std.proofs.Common.{◌≡◌, ℕ, List, Option, Some, option_map, sym, ap}
 use Rattle.serde_json.specs.View.{view}
-use Rattle.zarrs_metadata_parts.specs.Lists.{list_of}
-use Rattle.zarrs_chunk_grid.specs.Axes.{sizes_of}
+use Rattle.zarrs_metadata_parts.specs.Lists.{list_of, sizes_of, size_said}
 use Rattle.zarrs_chunk_grid.specs.Configurations.{bounded}
-use Rattle.zarrs_chunk_grid.specs.Metadata.{size_said}
 use Rattle.zarrs_chunk_grid.proofs.ConfigurationLemmas.{said_taken, said_refused}
 use Rattle.zarrs_chunk_grid.proofs.metadata.bounded_from.Goals as goal
 

@@ -1,4 +1,4 @@
-use Rattle.std.proofs.Common.{rules, arith, ◌≡◌, ◌+◌, ◌*◌, ◌<◌, ◌/◌, length, ◌∷◌, sym, ◌∙◌}
+use Rattle.std.proofs.Common.{rules, arith, ◌≡◌, ◌+◌, ◌*◌, ◌<◌, ◌/◌, length, sym, ◌∙◌}
 use Rattle.std.specs.Cmp.Lexicographic.{same_text}
 use Rattle.zarrs_codec_leaf.specs.BoxReads.{box_bytes}
 use Rattle.zarrs_codec_leaf.proofs.RowReads.{last_row, more_rows, no_dimension, rows_at, run_at}

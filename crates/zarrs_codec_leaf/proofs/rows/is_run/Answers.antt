@@ -1,4 +1,4 @@
-use Rattle.std.proofs.Common.{rules, ◌≡◌, ℕ, Bool, true, List, [], ◌∷◌, length, refl, sym, ◌∙◌}
+use Rattle.std.proofs.Common.{rules, ◌≡◌, ℕ, true, List, [], ◌∷◌, length, refl, sym, ◌∙◌}
 use Rattle.zarrs_codec_leaf.specs.BoxReads.{is_run}
 use Rattle.zarrs_codec_leaf.proofs.rows.is_run.Goals as goal
 

@@ -1,6 +1,6 @@
-use Rattle.std.proofs.Common.{◌≡◌, ◌<◌, ◌≤◌, ◌+◌, ◌^◌, ℕ, Ok, true, length, ap, sym, ◌∙◌, arith}
+use Rattle.std.proofs.Common.{◌<◌, ◌≤◌, ◌^◌, Ok, true, length, ap, sym, ◌∙◌, arith}
 use Rattle.std.specs.Int.{w32, to_le_bytes}
-use Rattle.zarrs_codec_leaf.proofs.StringData.{counted_more, short_more, counted_all, counted_long, counted_many}
+use Rattle.zarrs_codec_leaf.proofs.StringData.{counted_more, short_more, counted_all, counted_long}
 use Rattle.zarrs_codec_leaf.proofs.vlen_strings.counted_strings.Goals as goal
 
 pub loop-index-preserved : goal.loop-index-preserved

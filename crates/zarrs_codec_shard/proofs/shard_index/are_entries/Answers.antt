@@ -1,4 +1,4 @@
-use Rattle.std.proofs.Common.{◌≡◌, ◌*◌, ◌+◌, List, ℕ, map, ap, refl, sym, subst, arith, true}
+use Rattle.std.proofs.Common.{◌≡◌, ◌*◌, ◌+◌, ℕ, map, ap, refl, sym, subst, arith, true}
 use Rattle.std.specs.Prelude.{is_some, slice_range}
 use Rattle.zarrs_codec_shard.specs.Shards.{named_part}
 use Rattle.zarrs_codec_shard.specs.Steps.{all_present}

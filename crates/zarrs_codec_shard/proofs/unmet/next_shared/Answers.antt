@@ -1,6 +1,5 @@
-use Rattle.std.proofs.Common.{◌*◌, suc, arith}
+use Rattle.std.proofs.Common.{suc, arith}
 use Rattle.std.proofs.Math.Nat.{mul-le-mul_right, suc-mul}
-use Rattle.zarrs_codec_shard.proofs.UnmetRuns.{unshared_after, unshared_before}
 use Rattle.zarrs_codec_shard.proofs.unmet.next_shared.Goals as goal
 
 pub overflow_mul-first : goal.overflow_mul-first

@@ -1,5 +1,5 @@
 use Rattle.std.proofs.Common.{◌∙◌}
-use Rattle.zarrs_chunk_grid.specs.Axes.{sizes_of}
+use Rattle.zarrs_metadata_parts.specs.Lists.{sizes_of}
 use Rattle.zarrs_creation.proofs.Grids.{chunks_back}
 use Rattle.zarrs_creation.proofs.changes.regrid.Goals as goal
 use Rattle.zarrs_creation.proofs.changes.regrid.Goals.{in-V3, in-V2+in_ok-chunks-in-V2}

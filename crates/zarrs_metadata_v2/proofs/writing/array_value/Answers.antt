@@ -1,8 +1,9 @@
 use Rattle.std.proofs.Common.{ap, ◌∙◌}
 use Rattle.std.proofs.lemmas.Result.{IfOk-weaker}
+use Rattle.zarrs_metadata_parts.proofs.ListLemmas.{sizes_back}
 use Rattle.zarrs_metadata_v2.specs.Document.{document_v2_of, without_attributes}
 use Rattle.zarrs_metadata_v2.specs.View.{document_v2_view}
-use Rattle.zarrs_metadata_v2.proofs.DocumentLaws.{sizes_back, data_v2_with_back, without_same}
+use Rattle.zarrs_metadata_v2.proofs.DocumentLaws.{data_v2_with_back, without_same}
 use Rattle.zarrs_metadata_v2.proofs.writing.array_value.Goals as goal
 
 pub returns-clause-written : goal.returns-clause-written

@@ -1,5 +1,5 @@
 use Rattle.std.proofs.Common.{◌≡◌, take}
-use Rattle.zarrs_chunk_grid.specs.Axes.{sizes_of}
+use Rattle.zarrs_metadata_parts.specs.Lists.{sizes_of}
 use Rattle.zarrs_script.proofs.create.chunk_shape_of.Given as goal
 
 abbrev pub invariant-loop-extent : goal.invariant-loop-extent

@@ -1,5 +1,5 @@
 use Rattle.std.proofs.Common.{◌≡◌, ap, ◌∙◌}
-use Rattle.zarrs_chunk_grid.specs.Axes.{sizes_of}
+use Rattle.zarrs_metadata_parts.specs.Lists.{sizes_of}
 use Rattle.zarrs_script.specs.Parts.{document_for}
 use Rattle.zarrs_script.proofs.NewArrays.{is_numeric, little_chain, made_parts, says_parts, makes_grid}
 use Rattle.zarrs_script.proofs.create.metadata_of.Goals as goal

@@ -1,7 +1,7 @@
-use Rattle.std.proofs.Common.{arith, rules, ◌≡◌, ◌+◌, ◌-◌, ◌<◌, max, min, length, slice_index, refl, sym, ◌∙◌}
-use Rattle.zarrs_subset.specs.Boxes.{MeetAlong, overlap_extents, zip_with}
+use Rattle.std.proofs.Common.{arith, rules, ◌≡◌, ◌+◌, ◌-◌, ◌<◌, max, min, length, slice_index, refl, sym}
+use Rattle.zarrs_subset.specs.Boxes.{MeetAlong, overlap_extents}
 use Rattle.zarrs_subset.specs.Regions.{box_of}
-use Rattle.zarrs_subset.proofs.Overlaps.{length-zip_with, length-overlap_extents}
+use Rattle.zarrs_subset.proofs.Overlaps.{length-overlap_extents}
 use Rattle.zarrs_subset.proofs.Parts.{BytesPlaced-apart, TakesPart-from, shared_start, shared_other_start, zip_with-at}
 use Rattle.zarrs_subset.proofs.Parts.{overlap_extents-at, shared_fits, shared_some, shared_copied}
 use Rattle.zarrs_subset.proofs.BoxRuns.{box_copied, AllSome-fits, block_within, fits_at, IsPlan-more}

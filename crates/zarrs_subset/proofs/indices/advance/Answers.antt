@@ -1,9 +1,9 @@
-use Rattle.std.proofs.Common.{arith, rules, ◌≡◌, ◌+◌, ◌-◌, ◌<◌, ◌≤◌, ◌^◌, length, slice_index, slice_set, refl, sym, ap}
-use Rattle.std.proofs.Common.{◌∙◌, take, drop, ◌++◌, ◌∷◌}
+use Rattle.std.proofs.Common.{arith, ◌≡◌, ◌+◌, ◌-◌, ◌<◌, ◌^◌, length, slice_index, slice_set, sym, ap}
+use Rattle.std.proofs.Common.{◌∙◌}
 use Rattle.zarrs_subset.specs.Regions.{box_from}
 use Rattle.zarrs_subset.proofs.Bytes.{holds_along}
-use Rattle.zarrs_subset.proofs.WalkLemmas.{next_of, IsFreeIn, reset_from, reset_none, reset-at, set-reset, reset_more}
-use Rattle.zarrs_subset.proofs.WalkLemmas.{reset_all, IsFreeIn-last, ended_more, holds_start, holds-next, place_in-next, place_in-last}
+use Rattle.zarrs_subset.proofs.WalkLemmas.{next_of, reset_none, reset-at, set-reset, reset_more}
+use Rattle.zarrs_subset.proofs.WalkLemmas.{IsFreeIn-last, ended_more, holds_start, holds-next, place_in-next, place_in-last}
 use Rattle.zarrs_subset.proofs.indices.advance.Goals as goal
 
 pub loop-axis-init : goal.loop-axis-init

@@ -1,5 +1,4 @@
-use Rattle.std.proofs.Common.{arith, refl, ◌≡◌, ap, sym, ◌∷◌, []}
-use Rattle.zarrs_subset.specs.Strides.{RunsCopied}
+use Rattle.std.proofs.Common.{arith, refl, ◌≡◌}
 use Rattle.zarrs_subset.proofs.RunLemmas.{runs_more}
 use Rattle.zarrs_subset.proofs.runs.copy_rows.Goals as goal
 

@@ -1,4 +1,4 @@
-use Rattle.std.proofs.Common.{arith, ◌≡◌, ◌+◌, ◌≤◌, length, rules, ◌∙◌}
+use Rattle.std.proofs.Common.{arith, ◌≡◌, ◌+◌, ◌≤◌, length, ◌∙◌}
 use Rattle.zarrs_subset.proofs.Kernel.{length_part}
 use Rattle.zarrs_subset.proofs.RunLemmas.{run_copied}
 use Rattle.zarrs_subset.proofs.runs.copy_run.Goals as goal

@@ -1,12 +1,11 @@
 use Rattle.std.proofs.Common.{◌≡◌, ◌∙◌, ℕ, List, map, None, Ok, ap, sym, subst}
-use Rattle.zarrs_metadata.specs.Versions.{metadata_view}
 use Rattle.zarrs_options.specs.Options.{MetadataOptionsData}
 use Rattle.zarrs_options.specs.declared.versions.MetadataConvertVersion.TheVariants as convert
 use Rattle.zarrs_keys.specs.Keys.{v2_array_name, v2_attributes_name}
 use Rattle.zarrs_keys.specs.Paths.{path_key}
 use Rattle.zarrs_creation.specs.Opening.{v2_array_key, attributes_key}
 use Rattle.zarrs_creation.specs.Shown.{shown}
-use Rattle.zarrs_creation.specs.Writing.{Put, put_at, put_view, IsWrittenBy}
+use Rattle.zarrs_creation.specs.Writing.{Put, put_at, put_view}
 use Rattle.zarrs.specs.Arrays.{metadata_of_array, metadata_options_of_array, path_of_array}
 use Rattle.zarrs.specs.Upgrade.{AreUpgrade}
 use Rattle.zarrs.proofs.Upgraded.{two_more, upgrade_made}

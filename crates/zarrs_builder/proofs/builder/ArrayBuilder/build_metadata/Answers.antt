@@ -1,5 +1,4 @@
 use Rattle.std.proofs.lemmas.Result.{IfErr-weaker}
-use Rattle.zarrs_options.specs.Refusals.{create_refusal_of}
 use Rattle.zarrs_builder.proofs.Order.{document_refused}
 use Rattle.zarrs_builder.proofs.builder.ArrayBuilder.build_metadata.Goals as goal
 

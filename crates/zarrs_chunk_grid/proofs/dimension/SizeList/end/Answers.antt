@@ -1,4 +1,4 @@
-use Rattle.zarrs_chunk_grid.specs.Axes.{sizes_of}
+use Rattle.zarrs_metadata_parts.specs.Lists.{sizes_of}
 use Rattle.zarrs_chunk_grid.proofs.SizesLemmas.{last_found}
 use Rattle.zarrs_chunk_grid.proofs.dimension.SizeList.end.Goals as goal
 

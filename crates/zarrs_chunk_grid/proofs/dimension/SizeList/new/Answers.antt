@@ -1,5 +1,5 @@
 use Rattle.std.proofs.Common.{◌≡◌, ◌+◌, sum, take, arith}
-use Rattle.zarrs_chunk_grid.specs.Axes.{sizes_of}
+use Rattle.zarrs_metadata_parts.specs.Lists.{sizes_of}
 use Rattle.zarrs_chunk_grid.proofs.SizesLemmas.{size_more, past_sum}
 use Rattle.zarrs_chunk_grid.proofs.Walks.{each_more}
 use Rattle.zarrs_chunk_grid.proofs.dimension.SizeList.new.Goals as goal

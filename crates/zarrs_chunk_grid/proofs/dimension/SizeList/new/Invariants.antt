@@ -1,6 +1,6 @@
 use Rattle.std.proofs.Common.{◌≡◌, ◌+◌, ◌<◌, ◌^◌, sum, take, map}
 use Rattle.std.specs.List.{range_with_len}
-use Rattle.zarrs_chunk_grid.specs.Axes.{sizes_of}
+use Rattle.zarrs_metadata_parts.specs.Lists.{sizes_of}
 use Rattle.zarrs_chunk_grid.proofs.dimension.SizeList.new.Given as goal
 
 abbrev pub invariant-loop-size : goal.invariant-loop-size

@@ -3,7 +3,7 @@ use Rattle.std.specs.List.Sorted.{IsNonDecreasingBy}
 use Rattle.std.proofs.lemmas.List.Sorted.{IsPartitionedBy-leb, IsPartitionPoint-from_clause}
 use Rattle.std.specs.Int.NonZero.{non_zero_u64_get}
 use Rattle.std.proofs.lemmas.List.{length-map}
-use Rattle.zarrs_chunk_grid.specs.Axes.{sizes_of}
+use Rattle.zarrs_metadata_parts.specs.Lists.{sizes_of}
 use Rattle.zarrs_chunk_grid.specs.GridLaws.{sizes_some}
 use Rattle.zarrs_chunk_grid.proofs.SizesLemmas.{ends_rise, found_covers, none_covers}
 use Rattle.zarrs_chunk_grid.proofs.dimension.SizeList.number.Goals as goal

@@ -1,6 +1,7 @@
 use Rattle.std.proofs.Common.{◌≡◌, ◌<◌, ◌^◌, List, sum, sym, ap, subst, ◌∙◌}
 use Rattle.std.specs.declared.num.NonZeroU64.{NonZeroU64}
-use Rattle.zarrs_chunk_grid.specs.Axes.{sizes_of, ends_of_sizes}
+use Rattle.zarrs_metadata_parts.specs.Lists.{sizes_of}
+use Rattle.zarrs_chunk_grid.specs.Axes.{ends_of_sizes}
 use Rattle.zarrs_chunk_grid.proofs.dimension.SizeList.try_clone.Goals as goal
 
 pub invariant_of-result : goal.invariant_of-result

@@ -1,5 +1,5 @@
 use Rattle.std.proofs.Common.{refl, ap, arith}
-use Rattle.zarrs_chunk_grid.specs.Axes.{sizes_of}
+use Rattle.zarrs_metadata_parts.specs.Lists.{sizes_of}
 use Rattle.zarrs_chunk_grid.specs.Configurations.{bounded}
 use Rattle.zarrs_chunk_grid.proofs.ConfigurationLemmas.{bounded_made, counts_made, taken_alike}
 use Rattle.zarrs_chunk_grid.proofs.regular.RegularBoundedChunkGrid.new.Goals as goal

@@ -1,5 +1,5 @@
 use Rattle.std.proofs.Common.{◌≡◌, ap, ◌∙◌}
-use Rattle.zarrs_chunk_grid.specs.Axes.{sizes_of}
+use Rattle.zarrs_metadata_parts.specs.Lists.{sizes_of}
 use Rattle.zarrs_chunk_grid.specs.Configurations.{bounded, regular, grid_of}
 use Rattle.zarrs_chunk_grid.proofs.regular.RegularBoundedChunkGrid.try_clone.Goals as goal
 

@@ -1,4 +1,4 @@
-use Rattle.zarrs_chunk_grid.specs.Axes.{sizes_of}
+use Rattle.zarrs_metadata_parts.specs.Lists.{sizes_of}
 use Rattle.zarrs_chunk_grid.specs.Grids.{extent_along}
 use Rattle.zarrs_chunk_grid.proofs.Walks.{AlongChunk}
 use Rattle.zarrs_chunk_grid.proofs.traits.ChunkGridTraits.chunk_shape.Given as goal

@@ -3,7 +3,7 @@ use Rattle.std.proofs.Common.{◌≡◌, ◌∙◌, true, ap, sym, subst}
 use Rattle.zarrs_data_type.specs.ArrayData.{data_of}
 use Rattle.zarrs_data_type.specs.Cells.{fits}
 use Rattle.zarrs_data_type_bytes.proofs.Cells.{cells-parts}
-use Rattle.zarrs_codec_chain.specs.Stored.{bytes_of, refuses_of}
+use Rattle.zarrs_codec_chain.specs.Stored.{bytes_of}
 use Rattle.zarrs_subset.specs.Boxes.{position_count}
 use Rattle.zarrs_subset.specs.Regions.{box_of}
 use Rattle.zarrs_data_type.specs.States.{data_of_target, target_box}

@@ -1,11 +1,10 @@
 use Rattle.std.proofs.Common.{◌≡◌, ◌∙◌, Bool, List, ℕ, ap, subst, sym}
-use Rattle.std.specs.Prelude.{IfErr, IfOk, IsSome, OnOk}
-use Rattle.zarrs_data_type.specs.ArrayData.{data_of}
+use Rattle.std.specs.Prelude.{IfErr, IsSome, OnOk}
 use Rattle.zarrs_data_type.specs.CellTypes.{chunk_kind, shape_of}
 use Rattle.zarrs_subset.specs.Regions.{box_of}
 use Rattle.zarrs_codec_leaf.specs.Sources.{MayRead, window_bytes}
 use Rattle.zarrs_codec_chain.specs.Chain.{ChainMeaning}
-use Rattle.zarrs_codec_chain.specs.Chunks.{HoldsPart, HoldsPartAt, RefusesToDecodePart, decoded_of}
+use Rattle.zarrs_codec_chain.specs.Chunks.{HoldsPartAt, RefusesToDecodePart, decoded_of}
 use Rattle.zarrs_codec_chain.specs.Stored.{bytes_of, refuses_of}
 use Rattle.zarrs_codec.specs.Chains.{chain_meaning}
 use Rattle.zarrs_codec.proofs.chain.CodecChainChainTraits.partial_decode_into.Goals as goal

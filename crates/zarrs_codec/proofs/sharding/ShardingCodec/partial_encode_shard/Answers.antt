@@ -17,7 +17,7 @@ use Rattle.zarrs_codec_shard.specs.Subchunks.{subchunk_count}
 use Rattle.zarrs_codec_chain.specs.Chain.{ChainMeaning}
 use Rattle.zarrs_codec_chain.specs.Options.{stores_empty_chunks}
 use Rattle.zarrs_codec.specs.Chains.{chain_meaning, inner_chain_of, is_at_start, location_of, subchunk_sizes_of}
-use Rattle.zarrs_codec_optional.specs.ShardingMetadata.{sizes_of}
+use Rattle.zarrs_metadata_parts.specs.Lists.{sizes_of}
 use Rattle.zarrs_codec.specs.PartialShardings.{stored_bytes}
 use Rattle.zarrs_codec.proofs.PatchedShards.{at_end, is_opened, IsOpened}
 use Rattle.zarrs_codec.proofs.sharding.ShardingCodec.partial_encode_shard.Goals as goal

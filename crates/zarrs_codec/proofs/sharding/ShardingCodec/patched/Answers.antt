@@ -1,5 +1,5 @@
 use Rattle.zarrs_data_type.specs.CellTypes.{filling, kind_of}
-use Rattle.std.proofs.Common.{rules, arith, ◌≡◌, ◌+◌, ◌-◌, ◌<◌, ◌≤◌, [], ℕ, None, Some, not, is_some, get_or, length, map, take, drop, option_map, refl, sym, ap, subst, ◌∙◌}
+use Rattle.std.proofs.Common.{rules, arith, ◌≡◌, ◌+◌, ◌-◌, ◌<◌, ◌≤◌, [], ℕ, None, not, is_some, get_or, length, take, drop, option_map, sym, ap, subst, ◌∙◌}
 use Rattle.std.specs.List.{list_any}
 use Rattle.std.specs.Prelude.{slice_range}
 use Rattle.std.proofs.lemmas.List.{drop-map, get_or_default, length-map, take-map}

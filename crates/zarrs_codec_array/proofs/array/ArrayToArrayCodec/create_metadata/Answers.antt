@@ -5,6 +5,6 @@ use Rattle.zarrs_codec_array.proofs.array.ArrayToArrayCodec.create_metadata.Goal
 
 pub returns-in_ok-shape-in-Reshape-clause-reads_back : goal.returns-in_ok-shape-in-Reshape-clause-reads_back
 returns-in_ok-shape-in-Reshape-clause-reads_back c =
-    IfOk-weaker c.with_member-in-Reshape.result _ _
+    IfOk-weaker c.with_one_member-in-Reshape.result _ _
     (λ m is. reshape_written c.args.self.now c.in-Reshape.codec c.entries.result.now (view c.in_ok-shape-in-Reshape.shape) _ c.in-Reshape.is c.entries.ensures c.in_ok-shape-in-Reshape.ensures is)
-    c.with_member-in-Reshape.ensures
+    c.with_one_member-in-Reshape.ensures

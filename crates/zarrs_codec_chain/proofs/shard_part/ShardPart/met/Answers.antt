@@ -1,7 +1,7 @@
-use Rattle.std.proofs.Common.{◌≡◌, ◌∙◌, ◌+◌, ◌-◌, ◌*◌, ◌<◌, ◌≤◌, ◌^◌, ◌&&◌, Bool, List, ℕ, Option, Some, None, true, false, refl, ap, arith, drop, length, rules, subst, sym}
+use Rattle.std.proofs.Common.{◌∙◌, ◌-◌, List, ℕ, ap, subst, sym}
 use Rattle.std.specs.Prelude.{IfOk}
 use Rattle.zarrs_codec_chain.specs.OpenShards.{read_of}
-use Rattle.zarrs_codec_chain.proofs.OpenShards.{at_number, data_within, few_bytes, few_subchunks, named_here, opened, range_wider}
+use Rattle.zarrs_codec_chain.proofs.OpenShards.{opened}
 use Rattle.zarrs_subset.specs.Regions.{LiesInShape, box_of}
 use Rattle.zarrs_codec_shard.specs.Subchunks.{is_cut_by}
 use Rattle.zarrs_codec_chain.specs.ShardParts.{HasOnlyMet}

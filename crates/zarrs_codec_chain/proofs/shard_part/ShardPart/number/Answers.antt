@@ -1,6 +1,6 @@
-use Rattle.std.proofs.Common.{◌≡◌, ◌∙◌, ◌+◌, ◌-◌, ◌*◌, ◌<◌, ◌≤◌, ◌^◌, ◌&&◌, Bool, List, ℕ, Option, Some, None, true, false, refl, ap, arith, drop, length, rules, subst, sym}
+use Rattle.std.proofs.Common.{◌≡◌, ◌∙◌, ◌-◌, ◌≤◌, ◌^◌, List, ℕ, ap, arith, subst, sym}
 use Rattle.zarrs_codec_chain.specs.OpenShards.{read_of}
-use Rattle.zarrs_codec_chain.proofs.OpenShards.{at_number, data_within, few_bytes, few_subchunks, named_here, opened, range_wider}
+use Rattle.zarrs_codec_chain.proofs.OpenShards.{few_subchunks}
 use Rattle.zarrs_codec_shard.specs.Subchunks.{quotients}
 use Rattle.zarrs_subset.specs.Boxes.{InShape, place}
 use Rattle.zarrs_subset.proofs.Kernel.{place_below}

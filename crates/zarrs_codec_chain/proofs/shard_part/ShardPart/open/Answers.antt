@@ -1,6 +1,5 @@
-use Rattle.std.proofs.Common.{◌≡◌, ◌∙◌, ◌+◌, ◌*◌, ◌<◌, ℕ, List, ap, arith, length, subst, sym}
+use Rattle.std.proofs.Common.{◌≡◌, ◌∙◌, ◌+◌, ◌<◌, ℕ, List, ap, arith, length, subst, sym}
 use Rattle.std.specs.Prelude.{is_some}
-use Rattle.zarrs_codec_leaf.specs.Sources.{bytes_in}
 use Rattle.zarrs_codec_shard.specs.Shards.{index_in, shard_parts}
 use Rattle.zarrs_codec_shard.specs.LentData.{lent_chunk_shape, lent_shape}
 use Rattle.zarrs_codec_shard.specs.Subchunks.{subchunk_count}

@@ -1,8 +1,7 @@
-use Rattle.std.proofs.Common.{◌≡◌, ◌∙◌, ◌+◌, ◌-◌, ◌*◌, ◌<◌, ◌≤◌, ◌^◌, ◌&&◌, Bool, List, ℕ, Option, Some, None, true, false, refl, ap, arith, drop, length, rules, subst, sym}
+use Rattle.std.proofs.Common.{◌≡◌, ◌∙◌, ◌-◌, List, ℕ, Some, None, ap, arith, length, sym}
 use Rattle.zarrs_codec_chain.specs.OpenShards.{read_of}
-use Rattle.zarrs_codec_chain.proofs.OpenShards.{at_number, data_within, few_bytes, few_subchunks, named_here, opened, range_wider}
+use Rattle.zarrs_codec_chain.proofs.OpenShards.{data_within, named_here, opened, range_wider}
 use Rattle.std.specs.Prelude.{slice_index_or}
-use Rattle.zarrs_codec_leaf.specs.Sources.{bytes_in}
 use Rattle.zarrs_codec_shard.specs.ShardIndex.{range_part}
 use Rattle.zarrs_data_type_bytes.proofs.FixedSizes.{some_is}
 use Rattle.zarrs_subset.specs.Pieces.{piece_at}

@@ -1,6 +1,6 @@
-use Rattle.std.proofs.Common.{◌≡◌, ◌∙◌, ◌+◌, ◌-◌, ◌*◌, ◌<◌, ◌≤◌, ◌^◌, ◌&&◌, Bool, List, ℕ, Option, Some, None, true, false, refl, ap, arith, drop, length, rules, subst, sym}
+use Rattle.std.proofs.Common.{◌∙◌, ◌+◌, ◌-◌, ◌<◌, ◌≤◌, Some, ap, arith, drop, length, sym}
 use Rattle.zarrs_codec_chain.specs.OpenShards.{read_of}
-use Rattle.zarrs_codec_chain.proofs.OpenShards.{at_number, data_within, few_bytes, few_subchunks, named_here, opened, range_wider}
+use Rattle.zarrs_codec_chain.proofs.OpenShards.{few_bytes, opened}
 use Rattle.std.proofs.lemmas.List.{length-drop, length-take-le}
 use Rattle.zarrs_codec_chain.specs.Stored.{bytes_of}
 use Rattle.zarrs_codec_chain.proofs.ReadSteps.{in_places}

@@ -1,10 +1,9 @@
-use Rattle.std.proofs.Common.{◌≡◌, ◌∙◌, ◌+◌, ◌-◌, ◌*◌, ◌<◌, ◌≤◌, ◌^◌, ◌&&◌, Bool, List, ℕ, Option, Some, None, true, false, refl, ap, arith, drop, length, rules, subst, sym}
+use Rattle.std.proofs.Common.{◌≡◌, ◌∙◌, ◌+◌, ◌-◌, ◌<◌, ◌^◌, List, ℕ, true, ap, arith, length, subst, sym}
 use Rattle.zarrs_codec_chain.specs.OpenShards.{read_of}
-use Rattle.zarrs_codec_chain.proofs.OpenShards.{at_number, data_within, few_bytes, few_subchunks, named_here, opened, range_wider}
+use Rattle.zarrs_codec_chain.proofs.OpenShards.{opened}
 use Rattle.std.specs.Prelude.{slice_index}
 use Rattle.zarrs_codec_shard.specs.Subchunks.{is_cut_by, subchunk_box, subchunk_count}
-use Rattle.zarrs_subset.specs.Regions.{Box, box_of, shifted_box}
-use Rattle.zarrs_codec_chain.specs.ShardReads.{count_of}
+use Rattle.zarrs_subset.specs.Regions.{Box, box_of}
 use Rattle.zarrs_codec_chain.proofs.IntoSteps.{region_ends, region_start}
 use Rattle.zarrs_codec_chain.proofs.shard_part.ShardPart.subset_in.Goals as goal
 

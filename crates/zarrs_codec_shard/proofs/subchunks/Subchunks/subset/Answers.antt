@@ -1,12 +1,10 @@
-use Rattle.std.proofs.Common.{◌≡◌, ℕ, ◌*◌, ◌<◌, ◌^◌, length, sym, ap, subst, ◌∙◌, arith, rules}
+use Rattle.std.proofs.Common.{◌≡◌, ℕ, ◌<◌, ◌^◌, length, sym, ap, subst, ◌∙◌, arith, rules}
 use Rattle.std.specs.Prelude.{slice_index}
 use Rattle.zarrs_subset.specs.Boxes.{unravel, EndsFit}
 use Rattle.zarrs_subset.specs.Regions.{box_from}
 use Rattle.zarrs_subset.proofs.Positions.{unravel_in}
 use Rattle.zarrs_codec_shard.specs.SubchunkData.{chunk_shape, subchunk_shape}
 use Rattle.zarrs_codec_shard.specs.Subchunks.{quotients, corner}
-use Rattle.zarrs_codec_shard.proofs.CopiedCells.{starts_fit}
-use Rattle.zarrs_codec_shard.proofs.Grids.{cut_len}
 use Rattle.zarrs_codec_shard.proofs.SubchunkBoxes.{ends_fit, long_corner}
 use Rattle.zarrs_codec_shard.proofs.subchunks.Subchunks.subset.Goals as goal
 

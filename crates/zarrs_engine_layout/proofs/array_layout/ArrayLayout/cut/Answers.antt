@@ -1,12 +1,20 @@
-use Rattle.std.proofs.Common.{sym, ◌∙◌}
-use Rattle.zarrs_engine_layout.proofs.Cuts.{no_chunk_cut, some_cut, whole_cut}
+use Rattle.std.proofs.Common.{arith, sym, ◌∙◌}
+use Rattle.zarrs_engine_layout.proofs.Cuts.{cut_said, end_fits, no_chunk_cut, one_missing}
 use Rattle.zarrs_engine_layout.proofs.array_layout.ArrayLayout.cut.Goals as goal
 
-pub returns-then-not-has_chunk : goal.returns-then-not-has_chunk
-returns-then-not-has_chunk g c = no_chunk_cut (g.G.ChunkGridTraits.grid c.args.self.now.grid) c.args.shape.now c.args.chunk_indices.now (sym c.has_chunk.ensures ∙ c.if-not-has_chunk.true)
+pub returns-in_err-chunk : goal.returns-in_err-chunk
+returns-in_err-chunk g c =
+    let grid = g.G.ChunkGridTraits.grid c.args.self.now.grid in
+    c.from_residual.ensures
+    ∙ no_chunk_cut grid c.args.shape.now c.args.chunk_indices.now (sym (one_missing grid c.args.chunk_indices.now c.loop-dimension.dimension (omega (arith, c.requires.shape)) c.in_err-chunk.ensures.none))
 
-pub returns-then-ends_below : goal.returns-then-ends_below
-returns-then-ends_below g c = whole_cut (g.G.ChunkGridTraits.grid c.args.self.now.grid) c.args.shape.now c.args.chunk_indices.now (sym c.has_chunk.ensures ∙ c.if-not-has_chunk.false) (sym c.ends_below.ensures ∙ c.if-ends_below.true)
+pub overflow_add-ends_below : goal.overflow_add-ends_below
+overflow_add-ends_below g c =
+    let fits = end_fits (g.G.ChunkGridTraits.grid c.args.self.now.grid) (g.met.G.ChunkGridTraits.lawful c.args.self.now.grid) c.loop-dimension.dimension _ _ _ (omega (arith, c.requires.shape)) c.in_ok-chunk.ensures.some in
+    omega (arith, fits, c.get.ensures.value)
 
 pub returns : goal.returns
-returns g c = some_cut (g.G.ChunkGridTraits.grid c.args.self.now.grid) c.args.shape.now c.args.chunk_indices.now c.begins_below.result (sym c.has_chunk.ensures ∙ c.if-not-has_chunk.false) (sym c.ends_below.ensures ∙ c.if-ends_below.false) c.begins_below.ensures
+returns g c =
+    c.then_some.ensures
+    ∙ cut_said (g.G.ChunkGridTraits.grid c.args.self.now.grid) (g.met.G.ChunkGridTraits.lawful c.args.self.now.grid) c.args.shape.now c.args.chunk_indices.now c.loop-dimension.begins_below c.loop-dimension.ends_below
+    c.loop-dimension.dimension c.requires.indices c.requires.shape (omega arith) c.loop-dimension.invariant

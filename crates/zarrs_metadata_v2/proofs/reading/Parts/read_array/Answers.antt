@@ -1,6 +1,5 @@
 use Rattle.std.proofs.Common.{◌≡◌, false, codes, sym, ap, ◌∙◌, refl}
 use Rattle.serde_json.specs.Find.{get_member}
-use Rattle.serde_json.specs.View.{members_view}
 use Rattle.zarrs_metadata_v3.specs.Members.{reads_as_number}
 use Rattle.zarrs_metadata_v3.specs.Refusals.{metadata_error_of}
 use Rattle.zarrs_metadata_v3.proofs.RefusalLaws.{refuses_nothing}

@@ -1,9 +1,7 @@
-use Rattle.std.proofs.Common.{rules, ◌≡◌, ◌∷◌, ◌<◌, length, slice_index, SomeIndex}
-use Rattle.std.specs.Bool.{OnTrue, OnFalse}
+use Rattle.std.proofs.Common.{rules, ◌≡◌, ◌<◌, length}
 use Rattle.std.specs.List.{refill}
 use Rattle.std.proofs.lemmas.Bool.{iff_false}
-use Rattle.zarrs_subset.specs.Boxes.{position_count}
-use Rattle.zarrs_subset.specs.Regions.{Holds, box_of, place_in}
+use Rattle.zarrs_subset.specs.Regions.{box_of}
 use Rattle.zarrs_subset.specs.Walks.{positions_left}
 use Rattle.zarrs_subset.proofs.Overlaps.{AllSome}
 use Rattle.zarrs_subset.proofs.WalkLemmas.{refill-same, drop-next, drop-end, positions-empty, length-positions-some}

@@ -1,7 +1,7 @@
-use Rattle.std.proofs.Common.{rules, arith, refl, sym, ap, ◌∙◌, ◌≡◌, ◌+◌, ◌-◌, ◌*◌, ◌<◌, ◌≤◌, [], drop, length, ◌↔◌}
-use Rattle.std.proofs.Math.Nat.{add-mul, mul_comm, mul_assoc, mul-le-mul_left}
+use Rattle.std.proofs.Common.{rules, arith, refl, sym, ap, ◌∙◌, ◌≡◌, ◌+◌, ◌-◌, ◌*◌, ◌<◌, ◌≤◌, [], drop, length}
+use Rattle.std.proofs.Math.Nat.{mul_comm, mul_assoc}
 use Rattle.std.proofs.lemmas.List.{drop_all}
-use Rattle.zarrs_subset.specs.Boxes.{position_count, place}
+use Rattle.zarrs_subset.specs.Boxes.{position_count}
 use Rattle.zarrs_subset.proofs.PlanLemmas.{Extends, joined, pushed, single, extended_reaches, reaches_more}
 use Rattle.zarrs_subset.proofs.PlanLemmas.{extended_apart, extended_source_span, extended_target_span, room_more}
 use Rattle.zarrs_subset.proofs.PlanLemmas.{few_more, iff_trans, offset_more, some_more, drop-set_before}

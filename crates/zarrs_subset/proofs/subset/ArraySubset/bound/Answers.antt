@@ -1,4 +1,4 @@
-use Rattle.std.proofs.Common.{rules, arith, ◌≡◌, ◌+◌, ◌-◌, ◌<◌, length, slice_index, min, sym, refl, ◌∙◌}
+use Rattle.std.proofs.Common.{arith, ◌≡◌, ◌+◌, ◌-◌, ◌<◌, length, slice_index, min, refl, ◌∙◌}
 use Rattle.std.proofs.lemmas.List.{get_or_read_under}
 use Rattle.zarrs_subset.specs.Regions.{box_of, bound_to}
 use Rattle.zarrs_subset.proofs.Overlaps.{EndsFit-bound, end_fits, length-bound}

@@ -1,4 +1,4 @@
-use Rattle.std.proofs.Common.{rules, ◌≡◌, ◌+◌, length, sym, ap, ◌∙◌, Some}
+use Rattle.std.proofs.Common.{rules, ◌≡◌, length, sym, ap, ◌∙◌, Some}
 use Rattle.zarrs_subset.specs.Boxes.{InShape, offset_by, place, unravel}
 use Rattle.zarrs_subset.proofs.Counts.{length-InShape}
 use Rattle.zarrs_subset.proofs.Shifts.{index_fits, offset_by-sums}

@@ -1,4 +1,4 @@
-use Rattle.std.proofs.Common.{rules, arith, ◌≡◌, ◌+◌, ◌-◌, ◌<◌, ◌^◌, length, slice_index, max, min, refl, sym, ◌∙◌}
+use Rattle.std.proofs.Common.{arith, ◌≡◌, ◌+◌, ◌-◌, ◌<◌, ◌^◌, length, slice_index, max, min, refl, sym, ◌∙◌}
 use Rattle.std.proofs.lemmas.List.{get_or_read_under}
 use Rattle.zarrs_subset.specs.Boxes.{overlap_start, overlap_extents}
 use Rattle.zarrs_subset.proofs.Overlaps.{EndsFit-overlap, end_fits, in_box-overlap}

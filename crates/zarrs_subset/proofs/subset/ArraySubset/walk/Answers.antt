@@ -1,4 +1,4 @@
-use Rattle.std.proofs.Common.{rules, ◌≡◌, ap, ◌∙◌, slice_index, SomeIndex}
+use Rattle.std.proofs.Common.{rules, ◌≡◌, ap, ◌∙◌}
 use Rattle.std.proofs.lemmas.Bool.{iff_false}
 use Rattle.zarrs_subset.specs.Regions.{box_of, place_in}
 use Rattle.zarrs_subset.proofs.Overlaps.{AllSome}

@@ -1,4 +1,4 @@
-use Rattle.std.proofs.Common.{arith, ◌≡◌, ◌<◌, ◌+◌, ◌∷◌, [], ◌++◌, length, slice_index, sym, ap, ◌∙◌, below_more}
+use Rattle.std.proofs.Common.{arith, ◌≡◌, ◌+◌, ◌∷◌, [], length, ap, ◌∙◌, below_more}
 use Rattle.std.proofs.lemmas.List.{length_push, get_or_push, get_or_append_left}
 use Rattle.zarrs_subset.proofs.Overlaps.{zip_with-from}
 use Rattle.zarrs_subset.proofs.traits.ArraySubsetTraits.end_exc.Goals as goal

@@ -1,4 +1,4 @@
-use Rattle.std.proofs.Common.{arith, ◌≡◌, ◌<◌, length, slice_index}
+use Rattle.std.proofs.Common.{arith, ◌≡◌, length}
 use Rattle.zarrs_subset.proofs.traits.ArraySubsetTraits.is_empty.Goals as goal
 
 pub returns : goal.returns

@@ -1,4 +1,4 @@
-use Rattle.std.proofs.Common.{arith, ◌≡◌, ◌<◌, ◌-◌, ◌∷◌, [], ◌++◌, length, take, slice_index, sym, ap, ◌∙◌, inl, inr, below_more}
+use Rattle.std.proofs.Common.{arith, ◌≡◌, ◌<◌, ◌-◌, ◌∷◌, [], ◌++◌, length, take, slice_index, sym, ap, ◌∙◌, below_more}
 use Rattle.std.proofs.lemmas.List.{take_all, take_more}
 use Rattle.zarrs_subset.proofs.traits.ArraySubsetTraits.shape.Goals as goal
 

@@ -1,5 +1,5 @@
-use Rattle.std.proofs.Common.{arith, ◌≡◌, ◌<◌, ◌∷◌, [], ◌++◌, length, take, sym, ap, ◌∙◌}
-use Rattle.std.proofs.lemmas.List.{length-take-le, take_all, take_more}
+use Rattle.std.proofs.Common.{arith, ◌<◌, ◌∷◌, [], ◌++◌, length, take, sym, ap, ◌∙◌}
+use Rattle.std.proofs.lemmas.List.{take_all, take_more}
 use Rattle.zarrs_subset.proofs.traits.ArraySubsetTraits.start.Goals as goal
 
 pub loop-dimension-preserved : goal.loop-dimension-preserved

@@ -1,4 +1,4 @@
-use Rattle.std.proofs.Common.{rules, ◌≡◌, length, sym, ◌∙◌}
+use Rattle.std.proofs.Common.{rules, ◌≡◌, length}
 use Rattle.zarrs_subset.specs.Regions.{IsBox}
 use Rattle.zarrs_subset.proofs.Overlaps.{EndsFit-below}
 use Rattle.zarrs_subset.proofs.traits.ArraySubsetTraits.to_array_subset.Goals as goal
