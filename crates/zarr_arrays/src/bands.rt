@@ -22,6 +22,9 @@ const CUTTING: u64 = 32 * 1024 * 1024;
 /// The most bytes of cells of a band that has more than one cell.
 const MOST: u64 = 64 * 1024 * 1024;
 
+/// The bytes that a chunk counts for, however few its cells are: its key, and what is known of its file.
+const CHUNK: u64 = 128;
+
 /// The regions that were not cut into bands yet, none of them empty. The last one is next.
 #[derive(Debug, Drop)]
 pub struct Bands {
@@ -67,21 +70,24 @@ fn rows_up_to(to_end: u64, height: u64, wanted: u64, cutting: u64, most: u64) ->
     to_end.saturating_add(further.saturating_mul(height))
 }
 
-/// Returns the first row, along the axis, of the chunks that the row meets, and how many rows they have, if it meets any.
+/// Returns the first row, along the axis, of the chunks that the row meets, how many rows they have, and for how many bytes a
+/// row the chunks count, if it meets any.
 fn chunk_rows(
     alloc: Global,
     array: &Array<()>,
     row: &ArraySubset,
     axis: usize,
-) -> Result<Option<(u64, u64)>, Refusal> {
+) -> Result<Option<(u64, u64, u64)>, Refusal> {
     let Some(chunks) = array.chunks_in_array_subset(alloc, row)? else {
         return Ok(None);
     };
+    let count = chunks.num_elements().unwrap_or(u64::MAX);
     let chunk = array.chunk_subset(alloc, chunks.start())?;
-    match (chunk.start().get(axis), chunk.shape().get(axis)) {
-        (Some(start), Some(height)) => Ok(Some((*start, *height))),
-        _ => Ok(None),
-    }
+    let (Some(start), Some(height)) = (chunk.start().get(axis), chunk.shape().get(axis)) else {
+        return Ok(None);
+    };
+    let bytes = count.saturating_mul(CHUNK) / (*height).max(1);
+    Ok(Some((*start, *height, bytes)))
 }
 
 /// Returns how many rows along the axis the first band of the region has, at least one.
@@ -95,12 +101,13 @@ fn first_rows(
     ensures { IfOk result (λ rows. 1 ≤ rows) }
 {
     let row = row_bytes(array, region, axis);
-    let (wanted, cutting, most) = (WANTED / row, (CUTTING / row).max(1), MOST / row);
     let first = region.start()[axis];
     let top = with_rows(alloc, region, axis, first, 1)?;
-    let Some((start, height)) = chunk_rows(alloc, array, &top, axis)? else {
-        return Ok(cutting);
+    let Some((start, height, bytes)) = chunk_rows(alloc, array, &top, axis)? else {
+        return Ok((CUTTING / row).max(1));
     };
+    let row = row.max(bytes);
+    let (wanted, cutting, most) = (WANTED / row, (CUTTING / row).max(1), MOST / row);
     let to_end = start.saturating_add(height).saturating_sub(first);
     Ok(rows_up_to(to_end, height, wanted, cutting, most))
 }

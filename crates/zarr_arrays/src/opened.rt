@@ -141,14 +141,14 @@ impl<'r> Opened<'r> {
     /// Refuses to write metadata that is not seen as it is.
     ///
     /// # Errors
-    /// Its metadata has floats, or a data type under a foreign name.
+    /// Its metadata has floats, members that would not be written back, or a data type under a foreign name.
     pub fn need_clear(&self, alloc: Global) -> Result<(), Refusal> {
         if self.lens.is_clear() {
             return Ok(());
         }
         Err(Refusal::said(
             alloc,
-            "its metadata has floats, or a data type under a foreign name: it is not written",
+            "its metadata has floats, foreign members or a foreign data type: it is not written",
         ))
     }
 

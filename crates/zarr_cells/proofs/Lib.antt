@@ -1,3 +1,5 @@
+pub mod AsciiLemmas
+pub mod BlankLemmas
 pub mod LineLemmas
 pub mod ListLemmas
 pub mod RowLemmas

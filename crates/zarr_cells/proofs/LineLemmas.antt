@@ -12,7 +12,8 @@ use Rattle.std.proofs.lemmas.List.{get_or_append_left}
 use Rattle.std.proofs.Math.Seq.{take-append_seam, get_or-append_seam, take-length}
 use Rattle.zarr_cells.specs.declared.form.Form.{Form}
 use Rattle.zarr_cells.specs.Numbers.{AreSolid, cell_in}
-use Rattle.zarr_cells.specs.Lines.{trimmed, closing, ending, opening, closed, unclosed, unopened, word_in, is_first, is_last, next, column_after, joined, first_cell, behind, cells_in, WritesCell, WritesCells, ReadsCell, ReadsCells, Extends}
+use Rattle.zarr_cells.specs.Lines.{trimmed, closing, ending, opening, closed, unclosed, unopened, word_in, read_to, is_first, is_last, next, column_after, joined, first_cell, behind, cells_in, WritesCell, WritesCells, ReadsCell, ReadsCells, Extends}
+use Rattle.zarr_cells.proofs.BlankLemmas.{entered_row}
 use Rattle.zarr_cells.proofs.WordLemmas.{appends_both}
 
 -- ---- words
@@ -172,10 +173,13 @@ cell_written form size width column word cell old opened said new solid says fir
     record {
       text = body ++ closed (is_last width column);
       written = appends_both old said new body (closed (is_last width column)) (appends_both old opened said (opening (is_first column)) word first second) third;
-      reads = λ more. (
-        rw (taken_back (is_last width column) body more is_solid, word_back (is_first column) (is_last width column) word solid) says,
-        left_behind (is_last width column) body more is_solid,
-      );
+      reads = λ more.
+          let there = entered_row (is_first column) word (closed (is_last width column)) more in
+          let token : read_to (is_first column) (ending (is_last width column)) ((body ++ closed (is_last width column)) ++ more) ≡ body ++ closed (is_last width column) =
+          ap (take_through (ending (is_last width column))) there ∙ taken_back (is_last width column) body more is_solid in (
+            rw (token, word_back (is_first column) (is_last width column) word solid) says,
+            ap (drop_through (ending (is_last width column))) there ∙ left_behind (is_last width column) body more is_solid,
+          );
     }
 
 -- ---- many cells

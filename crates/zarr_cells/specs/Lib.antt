@@ -1,3 +1,4 @@
+pub mod Ascii
 pub mod Forms
 pub mod Laws
 pub mod Lines

@@ -8,12 +8,15 @@ use Rattle.std.specs.Io.BufRead.{take_through, drop_through}
 use Rattle.zarr_cells.specs.declared.form.Form.{Form}
 use Rattle.zarr_cells.specs.Numbers.{cell_in}
 
--- the text without the blanks that it begins and ends with
+-- the text without the blanks that it begins with, without those that it ends with, and without both
+abbrev pub trim_front : List ℕ → List ℕ
+trim_front text = drop (prefix_len is_ascii_whitespace text) text
+
 abbrev pub trim_back : List ℕ → List ℕ
 trim_back text = take (length text - suffix_len is_ascii_whitespace text) text
 
 abbrev pub trimmed : List ℕ → List ℕ
-trimmed text = trim_back (drop (prefix_len is_ascii_whitespace text) text)
+trimmed text = trim_back (trim_front text)
 
 -- the byte that ends a cell's word: a comma, or the bracket behind the last cell of a row
 abbrev pub closing : Bool → ℕ
@@ -40,6 +43,18 @@ unopened is_first text =
 -- the word of a cell, in what is read for it
 abbrev pub word_in : Bool → Bool → List ℕ → Option (List ℕ)
 word_in is_first is_last text = option_map trimmed (option_and_then (unopened is_first) (unclosed is_last (trimmed text)))
+
+-- the text from where a cell is read: blanks before a row, and so blank lines, are passed over
+abbrev pub entered : Bool → List ℕ → List ℕ
+entered is_first text = if is_first then trim_front text else text
+
+-- what is read for a cell, up to the byte that ends it
+abbrev pub read_to : Bool → ℕ → List ℕ → List ℕ
+read_to is_first byte text = take_through byte (entered is_first text)
+
+-- the text behind that
+abbrev pub left_by : Bool → ℕ → List ℕ → List ℕ
+left_by is_first byte text = drop_through byte (entered is_first text)
 
 -- whether the cell in this column is the first one of its row, and the last one
 abbrev pub is_first : ℕ → Bool
@@ -70,11 +85,11 @@ module _ (form : Form) (size width : ℕ) where
 
   -- the cell in the column that the text begins with
   abbrev pub first_cell : ℕ → List ℕ → Option (List ℕ)
-  first_cell column text = cell_at column (take_through (ending (is_last width column)) text)
+  first_cell column text = cell_at column (read_to (is_first column) (ending (is_last width column)) text)
 
   -- the text behind it
   abbrev pub behind : ℕ → List ℕ → List ℕ
-  behind column text = drop_through (ending (is_last width column)) text
+  behind column text = left_by (is_first column) (ending (is_last width column)) text
 
   -- the bytes of so many cells from the column on that the text begins with, and the text behind them
   abbrev pub cells_in : ℕ → ℕ → List ℕ → Option (List ℕ × List ℕ)
@@ -106,6 +121,15 @@ module _ (form : Form) (size width : ℕ) where
   ReadsCells count column old new before after =
       IfSome old (λ text. (cells : List ℕ) × (left : List ℕ)
       × (cells_in count column text ≡ Some (cells, left)) × (new ≡ Some left) × (after ≡ before ++ cells))
+
+-- what the reader began with was read for a cell, but for blanks at its ends, if what the reader has left is known
+abbrev pub ReadsToken : Bool → ℕ → Option (List ℕ) → Option (List ℕ) → List ℕ → Type 0
+ReadsToken is_first byte old new token =
+    IfSome old (λ text. (new ≡ Some (left_by is_first byte text)) × (trimmed token ≡ trimmed (read_to is_first byte text)))
+
+-- blanks before a row that the reader began with were passed over
+abbrev pub PassesBlanks : Bool → Option (List ℕ) → Option (List ℕ) → Type 0
+PassesBlanks is_first old new = IfSome old (λ text. (left : List ℕ) × (new ≡ Some left) × (entered is_first left ≡ entered is_first text))
 
 -- some bytes were added behind those that were there
 pub record Extends (before after : List ℕ) : Type 0 where

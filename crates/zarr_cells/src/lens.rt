@@ -1,6 +1,7 @@
 //! What the array layer sees of a foreign document: one that it reads, and whose cells are the same bytes.
-ghost use Rattle.std.specs.Prelude.{◌≡◌, ◌&&◌, not, is_none};
+ghost use Rattle.std.specs.Prelude.{◌≡◌, ◌&&◌, not, is_none, true, IfOk, IsSomeAnd};
 
+use crate::bare::{Document, read_document};
 use crate::error::CellsError;
 use crate::floats::value_bits;
 use crate::form::Width;
@@ -13,7 +14,8 @@ use zarrs_metadata::holds_float;
 pub struct Lens {
     /// The cells are floats, of which the bits are seen.
     pub floats: Option<Width>,
-    /// Attributes, or the name of the data type, are not seen as they are.
+    /// A document would not be written back as it is: attributes, or the name of the data type, are not seen as they are, a
+    /// V2 document has a member that the layer does not keep, or a bare `NaN` or `Infinity` stands in it.
     pub is_partial: bool,
     /// The fill value is null: cells that were not stored may be any.
     pub has_no_fill: bool,
@@ -74,14 +76,14 @@ fn see_name(
     Ok(())
 }
 
-/// Puts the bits of the fill value in its place; those of null are 0.
+/// Puts the bits of the fill value in its place, if it says a float. Null stays: in V2 it is read as 0, and in V3 it is no
+/// fill value.
 fn see_fill(
     alloc: Global,
     members: &mut Map<String, Value>,
     width: Width,
 ) -> Result<(), CellsError> {
     let bits = match members.get("fill_value") {
-        Some(Value::Null) => Some(0),
         Some(fill) => value_bits(width, fill),
         None => None,
     };
@@ -97,10 +99,10 @@ fn text_at<'m>(members: &'m Map<String, Value>, name: &str) -> Option<&'m str> {
     members.get(name).and_then(Value::as_str)
 }
 
-/// Takes the attributes away, if a float is among them.
-fn hide_attributes(members: &mut Map<String, Value>, lens: &mut Lens) {
+/// Takes the attributes away, if a float is among them, or may be since the document had bare words.
+fn hide_attributes(members: &mut Map<String, Value>, has_bare: bool, lens: &mut Lens) {
     let has_floats = match members.get("attributes") {
-        Some(attributes) => holds_float(attributes),
+        Some(attributes) => has_bare || holds_float(attributes),
         None => false,
     };
     if has_floats {
@@ -109,19 +111,69 @@ fn hide_attributes(members: &mut Map<String, Value>, lens: &mut Lens) {
     }
 }
 
+/// Returns whether this member is absent or an empty object.
+fn is_empty_at(members: &Map<String, Value>, name: &str) -> bool {
+    match members.get(name) {
+        Some(Value::Object(inner)) => inner.is_empty(),
+        Some(_) => false,
+        None => true,
+    }
+}
+
+/// Returns the name of a data type of V3: a text, or an object of a name and an empty configuration at most.
+fn type_name(data_type: &Value) -> Option<&str> {
+    match data_type {
+        Value::Object(members) if is_empty_at(members, "configuration") => text_at(members, "name"),
+        _ => data_type.as_str(),
+    }
+}
+
+/// Returns what is seen of the data type of a V3 document, as `seen_v3` does.
+fn type_seen(members: &Map<String, Value>) -> Option<(&'static str, Option<Width>)> {
+    let data_type = members.get("data_type")?;
+    let name = type_name(data_type)?;
+    seen_v3(name)
+}
+
 /// Shows the members of a V3 document as the layer reads them.
 fn see_v3(
     alloc: Global,
     members: &mut Map<String, Value>,
     lens: &mut Lens,
 ) -> Result<(), CellsError> {
-    hide_attributes(members, lens);
-    let name = text_at(members, "data_type").and_then(|name| seen_v3(name));
+    let name = type_seen(members);
     see_name(alloc, members, "data_type", name, lens)?;
     if let Some(width) = lens.floats {
         see_fill(alloc, members, width)?;
     }
     Ok(())
+}
+
+/// Returns whether the layer writes the member of a V2 document back that has this name. It does not keep others, and
+/// `attributes` go to a document of their own.
+fn is_kept(name: &str) -> bool {
+    matches!(
+        name,
+        "zarr_format"
+            | "shape"
+            | "chunks"
+            | "dtype"
+            | "compressor"
+            | "fill_value"
+            | "order"
+            | "filters"
+            | "dimension_separator"
+    )
+}
+
+/// Returns whether the layer writes each of these members of a V2 document back.
+fn are_kept(members: &Map<String, Value>) -> bool {
+    for (name, _member) in members.iter() {
+        if !is_kept(name.as_str()) {
+            return false;
+        }
+    }
+    true
 }
 
 /// Shows the members of a V2 document as the layer reads them.
@@ -131,6 +183,9 @@ fn see_v2(
     lens: &mut Lens,
 ) -> Result<(), CellsError> {
     lens.has_no_fill = matches!(members.get("fill_value"), Some(Value::Null));
+    if !are_kept(members) {
+        lens.is_partial = true;
+    }
     let name = text_at(members, "dtype").and_then(|name| seen_v2(name));
     see_name(alloc, members, "dtype", name, lens)?;
     if let Some(width) = lens.floats {
@@ -139,34 +194,66 @@ fn see_v2(
     Ok(())
 }
 
-/// Returns the document that is seen in place of the one at a metadata key, `None` for none. It is the same where the
-/// layer reads it. Of an array that has a `zarr.json` no other document is to be looked at.
-pub fn seen(
+/// Returns the attributes that are seen in place of those of V2, `None` for none.
+fn seen_attributes(
     alloc: Global,
-    name: &str,
+    document: &Document,
     bytes: &[u8],
     lens: &mut Lens,
-) -> Result<Option<Vec<u8>>, CellsError> {
-    let Ok(mut value) = Value::from_slice(alloc, bytes) else {
-        return Ok(Some(bytes.to_vec(alloc)?));
-    };
-    if name == ".zattrs" {
-        if holds_float(&value) {
-            lens.is_partial = true;
-            return Ok(None);
-        }
-        return Ok(Some(bytes.to_vec(alloc)?));
+) -> Result<Option<Vec<u8>>, CellsError>
+    ensures { IfOk result (λ shown. (is_none lens.new.floats && not lens.new.is_partial) ≡ true
+        → IsSomeAnd shown (λ made. made.items ≡ bytes.now)) }
+{
+    if document.has_bare || holds_float(&document.value) {
+        lens.is_partial = true;
+        return Ok(None);
     }
-    if let Some(members) = value.as_object_mut() {
+    Ok(Some(bytes.to_vec(alloc)?))
+}
+
+/// Shows the value of the document at this key, which has the shape of the array, as the layer reads it.
+fn see_document(
+    alloc: Global,
+    name: &str,
+    document: &mut Document,
+    lens: &mut Lens,
+) -> Result<(), CellsError> {
+    if document.has_bare {
+        lens.is_partial = true;
+    }
+    if let Some(members) = document.value.as_object_mut() {
+        hide_attributes(members, document.has_bare, lens);
         if name == "zarr.json" {
             see_v3(alloc, members, lens)?;
         } else {
             see_v2(alloc, members, lens)?;
         }
     }
+    Ok(())
+}
+
+/// Returns the document that is seen in place of the one at a metadata key, `None` for none. It is the same where the
+/// layer reads it, and byte for byte if the lens is clear then. Of an array that has a `zarr.json` no other document is to
+/// be looked at.
+pub fn seen(
+    alloc: Global,
+    name: &str,
+    bytes: &[u8],
+    lens: &mut Lens,
+) -> Result<Option<Vec<u8>>, CellsError>
+    ensures { IfOk result (λ shown. (is_none lens.new.floats && not lens.new.is_partial) ≡ true
+        → IsSomeAnd shown (λ made. made.items ≡ bytes.now)) }
+{
+    let Some(mut document) = read_document(alloc, bytes)? else {
+        return Ok(Some(bytes.to_vec(alloc)?));
+    };
+    if name == ".zattrs" {
+        return seen_attributes(alloc, &document, bytes, lens);
+    }
+    see_document(alloc, name, &mut document, lens)?;
     if lens.is_clear() {
         return Ok(Some(bytes.to_vec(alloc)?));
     }
-    let text = value.to_string(alloc)?;
+    let text = document.value.to_string(alloc)?;
     Ok(Some(text.as_bytes().to_vec(alloc)?))
 }

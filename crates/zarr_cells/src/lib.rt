@@ -5,6 +5,8 @@
 //! `split_rows` cuts the first rows off a region.
 #![tactic(auto)]
 
+mod ascii;
+mod bare;
 mod bits;
 mod cells;
 mod error;
@@ -18,6 +20,7 @@ mod rows;
 mod texts;
 mod words;
 
+pub use ascii::ascii_json;
 pub use bits::cell_text;
 pub use cells::{form_of, raw_size, read_raw, write_raw};
 pub use error::CellsError;

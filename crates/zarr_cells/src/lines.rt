@@ -1,10 +1,11 @@
 //! Cells as text: a JSON list for each row, on a line of its own.
-ghost use Rattle.std.specs.Prelude.{◌≡◌, ◌≤◌, ◌<◌, ◌++◌, ℕ, List, length, take, vec_items, if◌then◌else◌};
-ghost use Rattle.std.specs.Prelude.{MatchOption, IfOk, OnOk, Some, None};
+ghost use Rattle.std.specs.Prelude.{◌≡◌, ◌==◌, ◌≤◌, ◌<◌, ◌++◌, ℕ, List, length, take, vec_items, if◌then◌else◌};
+ghost use Rattle.std.specs.Prelude.{MatchBool, MatchOption, IfOk, OnOk, Some, None};
 ghost use Rattle.std.specs.Io.KnownBytes.{Appends};
 ghost use Rattle.zarr_cells.specs.Lines.{cell_at, closed, column_after, is_first, is_last, next, opening};
 ghost use Rattle.zarr_cells.specs.Lines.{trimmed, unclosed, unopened, word_in, Extends, ReadsCell};
-ghost use Rattle.zarr_cells.specs.Lines.{ReadsCells, WritesCell, WritesCells};
+ghost use Rattle.zarr_cells.specs.Lines.{trim_front, PassesBlanks, ReadsCells, ReadsToken};
+ghost use Rattle.zarr_cells.specs.Lines.{WritesCell, WritesCells};
 
 use crate::bits::{cell_bits, word_cell, write_bits};
 use crate::error::CellsError;
@@ -174,6 +175,50 @@ fn no_cell(alloc: Global, token: &[u8]) -> CellsError {
     }
 }
 
+/// Returns whether the text has nothing but blanks.
+fn is_blank(text: &[u8]) -> bool
+    ensures { result ≡ (length (trim_front text.now) == 0) }
+{
+    text.trim_ascii_start().is_empty()
+}
+
+/// Reads up to this byte. Returns whether only blanks before a row were read, and more may follow.
+fn read_piece<R: BufRead>(
+    input: &mut R,
+    is_first: bool,
+    ending: u8,
+    token: &mut Vec<u8>,
+) -> io::Result<bool>
+    ensures { IfOk result (λ again. MatchBool again
+        (PassesBlanks is_first (R.remaining input.old) (R.remaining input.new))
+        (ReadsToken is_first ending (R.remaining input.old) (R.remaining input.new) token.new.items)) }
+{
+    token.clear();
+    let count = input.read_until(ending, token)?;
+    if count == 0 || !is_first {
+        return Ok(false);
+    }
+    Ok(is_blank(token))
+}
+
+/// Reads what stands for a cell, up to the byte that ends it. Blank lines before a row are passed over.
+fn read_token<R: BufRead>(
+    input: &mut R,
+    is_first: bool,
+    ending: u8,
+    token: &mut Vec<u8>,
+) -> io::Result<()>
+    ensures { OnOk result (ReadsToken is_first ending (R.remaining input.old) (R.remaining input.new)
+        token.new.items) }
+{
+    for _turn in 0..u64::MAX {
+        if !read_piece(input, is_first, ending, token)? {
+            return Ok(());
+        }
+    }
+    Err(io::Error::from(ErrorKind::InvalidData))
+}
+
 /// Adds the cell in this column that the input begins with.
 #[tactic(auto, using(crate::proofs::LineLemmas::extends_by, crate::proofs::LineLemmas::extends_same))]
 fn read_cell<R: BufRead>(
@@ -188,9 +233,8 @@ fn read_cell<R: BufRead>(
         (R.remaining input.old) (R.remaining input.new) bytes.old.items bytes.new.items) }
     ensures kept { Extends bytes.old.items bytes.new.items }
 {
-    token.clear();
     let ending = if rows.is_last(column) { b'\n' } else { b',' };
-    input.read_until(ending, token)?;
+    read_token(input, column == 0, ending, token)?;
     let Some(cell) = token_cell(rows, column, token) else {
         return Err(no_cell(alloc, token));
     };
@@ -198,8 +242,8 @@ fn read_cell<R: BufRead>(
     Ok(())
 }
 
-/// Adds this many cells from the column on that the input begins with: a list for each row, on a line of its own.
-/// Returns the column after them. What the bytes had before stays, also if it is refused.
+/// Adds this many cells from the column on that the input begins with: a list for each row, on a line of its own, behind
+/// blank lines or none. Returns the column after them. What the bytes had before stays, also if it is refused.
 ///
 /// # Errors
 /// E5 for what is no cell; fewer cells; what the reader says; out of memory.

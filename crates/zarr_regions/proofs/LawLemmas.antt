@@ -4,7 +4,6 @@ use Rattle.std.specs.Prelude.{◌^◌, bytes_eq}
 use Rattle.std.specs.List.{All, flat_map}
 use Rattle.std.specs.Int.{w16, w64, from_le_bytes, to_le_bytes}
 use Rattle.std.specs.Io.KnownBytes.{Consumes}
-use Rattle.std.specs.Io.BufRead.{take_through}
 use Rattle.std.proofs.Math.Nat.{mul-div_cancel}
 use Rattle.std.proofs.Math.Seq.{drop-append_seam, take-append_seam}
 use Rattle.std.proofs.lemmas.Nat.{from_le_bytes-to_le_bytes_2}
@@ -26,7 +25,7 @@ use Rattle.zarrs_directory.specs.declared.files.Directory.{Directory}
 use Rattle.zarrs_directory.specs.declared.store.DirectoryStore.{DirectoryStore}
 use Rattle.zarr_cells.specs.declared.form.Form.{Form}
 use Rattle.zarr_cells.specs.Numbers.{bits_in, cell_of, cell_in, widened}
-use Rattle.zarr_cells.specs.Lines.{first_cell, cells_in, behind, next, joined, ending, is_first, is_last, word_in, ReadsCells as ReadsLines}
+use Rattle.zarr_cells.specs.Lines.{first_cell, cells_in, behind, next, joined, ending, is_first, is_last, read_to, word_in, ReadsCells as ReadsLines}
 use Rattle.zarr_cells.specs.Laws.{LinesAreReadBack, RawIsReadBack}
 use Rattle.zarr_cells.specs.Npy.{header_bytes}
 use Rattle.zarr_cells.proofs.WordLemmas.{appends_both}
@@ -94,10 +93,6 @@ module _ {R : Type 0} (layout : Layout) (size : ℕ) where
 
 -- ---- how many bytes the cells of lines have
 
-the_list : Option (List ℕ) → List ℕ
-the_list None = []
-the_list (Some list) = list
-
 yes_some : (yes : Bool) (x y : List ℕ) → cond yes (Some x) None ≡ Some y → (yes ≡ true) × (x ≡ y)
 yes_some true x y is = (refl, cc)
 yes_some false x y is = cc
@@ -141,7 +136,7 @@ module _ (form : Form) (size width : ℕ) where
   lines_sized (suc count) column text cells left is =
       parts_sized (first_cell form size width column text) (cells_in form size width count (next width column) (behind form size width column text)) cells left size count is
       (λ cell first.
-      option_and_then_some (cell_in form size) (word_in (is_first column) (is_last width column) (take_through (ending (is_last width column)) text)) cell first
+      option_and_then_some (cell_in form size) (word_in (is_first column) (is_last width column) (read_to (is_first column) (ending (is_last width column)) text)) cell first
       (λ (word : List ℕ) found made. word_sized form size word cell made))
       (λ more rest others. lines_sized count (next width column) (behind form size width column text) more rest others)
 

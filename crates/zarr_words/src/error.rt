@@ -8,7 +8,7 @@ use std::fmt;
 /// Why the words of a command are refused.
 #[derive(Debug, Drop)]
 pub enum WordsError {
-    /// A word too many or too few, an option that is not known or has no value.
+    /// A word too many or too few, an option that is not known, has no value or is there twice, a quote without an end.
     Said(String),
     /// Out of memory.
     OutOfMemory,

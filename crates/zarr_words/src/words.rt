@@ -17,7 +17,7 @@ pub struct Given<'a> {
 }
 
 /// Returns the error that says this of the word.
-fn refused(alloc: Global, about: &str, word: &str) -> WordsError {
+pub(crate) fn refused(alloc: Global, about: &str, word: &str) -> WordsError {
     match format!(in alloc; "{about} `{word}`") {
         Ok(text) => WordsError::Said(text),
         Err(_) => WordsError::OutOfMemory,
@@ -62,6 +62,9 @@ impl<'a> Given<'a> {
         value: Option<&'a str>,
     ) -> Result<Option<&'a str>, WordsError> {
         match (usage.option(name), value) {
+            (Some((known, _)), _) if self.has(known) => {
+                return Err(refused(alloc, "given twice: the option", known));
+            }
             (Some((known, OptionKind::Flag)), None) => self.add(known, "")?,
             (None, _) | (Some((_, OptionKind::Flag)), Some(_)) => {
                 return Err(refused(alloc, "nothing is known of the option", name));
@@ -104,7 +107,7 @@ impl<'a> Given<'a> {
     /// Returns the words by their names.
     ///
     /// # Errors
-    /// A word too many or too few, an option that is not known or has no value.
+    /// A word too many or too few, an option that is not known, has no value or is there twice.
     pub fn of(alloc: Global, usage: &Usage, words: &'a [String]) -> Result<Given<'a>, WordsError> {
         let mut given = Given {
             places: 0,

@@ -134,14 +134,15 @@ impl<'r, R: Files + AllocGlobal> Directory<'r, R> {
         self.root.as_str()
     }
 
-    /// Refuses a key one of whose names is a symbolic link, which might lead out of the directory.
+    /// Refuses a key one of whose names is neither a folder nor a file: a symbolic link might lead out of the directory, and a
+    /// pipe would be waited for.
     fn refuse_links(&self, alloc: Global, key: &str) -> io::Result<()> {
         let mut path = String::from_str(alloc, self.root.as_str())?;
         for name in key.split('/') {
             path.push('/')?;
             path.push_str(name)?;
             match fs::symlink_metadata(self.rt, path.as_str()) {
-                Ok(found) if found.is_symlink() => {
+                Ok(found) if !found.is_dir() && !found.is_file() => {
                     return Err(io::Error::from(ErrorKind::PermissionDenied));
                 }
                 Err(error) if !is_absent(&error) => return Err(error),
