@@ -1,9 +1,8 @@
 //! Chunk grids read from metadata, and written to it.
-ghost use Rattle.std.specs.Prelude.{◌≡◌, ◌∷◌, [], Some, map, option_map, IfOk, IfErr};
-ghost use Rattle.std.specs.Int.NonZero.{non_zero_u64_get};
+ghost use Rattle.std.specs.Prelude.{◌≡◌, Some, map, option_map, IfOk, IfErr};
 ghost use Rattle.serde_json.specs.View.{view};
-ghost use Rattle.zarrs_metadata_parts.specs.Extension.{extension_view, settings};
-ghost use Rattle.zarrs_metadata_parts.specs.Lists.{list_of, list_data, number_data, sizes_of, size_said};
+ghost use Rattle.zarrs_metadata_parts.specs.Extension.{extension_view};
+ghost use Rattle.zarrs_metadata_parts.specs.Lists.{list_of, list_data, size_said};
 ghost use Rattle.zarrs_metadata_parts.specs.Refusals.{RefusesMeaning};
 ghost use Rattle.zarrs_chunk_grid.specs.Configurations.{regular, bounded, rectangular, sizes_view};
 ghost use Rattle.zarrs_chunk_grid.specs.Metadata.{grid_said};
@@ -16,10 +15,9 @@ use crate::error::GridError;
 use crate::grid::ChunkGrid;
 use crate::rectangular::RectangularChunkGrid;
 use crate::regular::{RegularBoundedChunkGrid, RegularChunkGrid};
-use crate::traits::{ChunkGridTraits, ChunkShape};
+use crate::traits::ChunkGridTraits;
 use serde_json::Value;
 use std::alloc::{AllocError, Global};
-use std::num::NonZeroU64;
 use zarrs_metadata_parts::{MetadataV3, PluginCreateError, size, sizes, sizes_value};
 use zarrs_subset::ArrayShape;
 

@@ -1,11 +1,10 @@
 //! The metadata of codecs that make an array of an array, both ways.
 ghost use Rattle.std.specs.Prelude.{◌≡◌, Some, None, map, option_map, option_and_then, IfOk, IfErr};
 ghost use Rattle.std.specs.Prelude.{if◌then◌else◌};
-ghost use Rattle.std.specs.Int.NonZero.{non_zero_u64_get};
 ghost use Rattle.serde_json.specs.View.{view};
 ghost use Rattle.serde_json.specs.Find.{as_number, as_i64};
 ghost use Rattle.zarrs_metadata_parts.specs.Extension.{extension_view, settings};
-ghost use Rattle.zarrs_metadata_parts.specs.Lists.{list_of, list_data, number_of};
+ghost use Rattle.zarrs_metadata_parts.specs.Lists.{list_of, list_data};
 ghost use Rattle.zarrs_metadata_parts.specs.Refusals.{RefusesMeaning};
 ghost use Rattle.zarrs_codec_array.specs.Arrays.{size, rest};
 ghost use Rattle.zarrs_codec_array.specs.Extents.{extent_view, extents_view};
@@ -21,7 +20,6 @@ use crate::squeeze::SqueezeCodec;
 use crate::transpose::TransposeCodec;
 use serde_json::Value;
 use std::alloc::{AllocError, Global};
-use std::num::NonZeroU64;
 use zarrs_metadata_parts::{MetadataV3, PluginCreateError, numbers, numbers_value, size};
 
 impl ArrayToArrayCodec {

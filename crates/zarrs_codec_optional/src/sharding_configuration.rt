@@ -1,9 +1,8 @@
 //! The metadata of the codec `sharding_indexed`, both ways.
 ghost use Rattle.std.specs.Prelude.{◌≡◌, map, option_map, option_and_then, IfOk};
-ghost use Rattle.std.specs.Int.NonZero.{non_zero_u64_get};
 ghost use Rattle.serde_json.specs.View.{view};
-ghost use Rattle.zarrs_metadata_parts.specs.Extension.{extension_data, extension_of, extension_view, settings};
-ghost use Rattle.zarrs_metadata_parts.specs.Lists.{list_data, list_of, number_data, size_said, sizes_of};
+ghost use Rattle.zarrs_metadata_parts.specs.Extension.{extension_of, extension_view, settings};
+ghost use Rattle.zarrs_metadata_parts.specs.Lists.{list_of, size_said, sizes_of};
 ghost use Rattle.zarrs_codec_optional.specs.ShardingMetadata.{location_said, sharding_data};
 ghost use Rattle.zarrs_codec_optional.specs.ShardingMetadata.{sharding_extension};
 ghost use Rattle.zarrs_codec_optional.specs.ShardingViews.{sharding_view};

@@ -1,5 +1,5 @@
 //! Fill values as the metadata of Zarr V2 says them.
-ghost use Rattle.std.specs.Prelude.{◌≡◌, Some, option_map, IfOk, IfErr, IsSome};
+ghost use Rattle.std.specs.Prelude.{◌≡◌, Some, IfOk, IfErr, IsSome};
 ghost use Rattle.zarrs_metadata_parts.specs.FillValue.{fill_data};
 ghost use Rattle.zarrs_data_type_kinds.specs.Cell.{fill_cell};
 ghost use Rattle.zarrs_data_type_kinds.specs.Fills.{RefusesFillMetadata};

@@ -1,9 +1,8 @@
 //! Reading a V2 document from a JSON value, member by member.
-ghost use Rattle.std.specs.Prelude.{◌≡◌, map, option_map, option_and_then, IfOk};
-ghost use Rattle.std.specs.Int.NonZero.{non_zero_u64_get};
+ghost use Rattle.std.specs.Prelude.{option_map, option_and_then};
 ghost use Rattle.serde_json.specs.Data.{Members};
 ghost use Rattle.serde_json.specs.Find.{as_str};
-ghost use Rattle.serde_json.specs.View.{view, items_view, members_view};
+ghost use Rattle.serde_json.specs.View.{view, members_view};
 ghost use Rattle.zarrs_metadata_parts.specs.Lists.{list_of, size_said, sizes_of};
 ghost use Rattle.zarrs_metadata_v3.specs.Refusals.{Reads};
 ghost use Rattle.zarrs_metadata_v2.specs.Document.{chunk_order_of, dimension_separator_in};
@@ -13,7 +12,7 @@ ghost use Rattle.zarrs_metadata_v2.specs.View.{document_v2_view, AreParts};
 use crate::document::ArrayMetadataV2;
 use crate::order::ArrayMetadataV2Order;
 use serde_json::{Map, Value};
-use std::alloc::{AllocError, Global};
+use std::alloc::Global;
 use std::num::NonZeroU64;
 use zarrs_metadata_parts::{ChunkKeySeparator, DataTypeMetadataV2, sizes};
 use zarrs_metadata_v3::Unread;

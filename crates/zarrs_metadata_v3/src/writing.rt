@@ -1,7 +1,7 @@
 //! Writing a document as a JSON value, member by member.
 ghost use Rattle.std.specs.Prelude.{◌≡◌, map, option_map, IfOk};
 ghost use Rattle.serde_json.specs.View.{view};
-ghost use Rattle.zarrs_metadata_parts.specs.Extension.{extension_data, extension_view};
+ghost use Rattle.zarrs_metadata_parts.specs.Extension.{extension_view};
 ghost use Rattle.zarrs_metadata_parts.specs.Lists.{list_data};
 ghost use Rattle.zarrs_metadata_v3.specs.Document.{dimension_name_data, transformers_data, data_of_document};
 ghost use Rattle.zarrs_metadata_v3.specs.View.{name_view, document_view};
