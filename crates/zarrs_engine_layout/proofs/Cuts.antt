@@ -40,6 +40,13 @@ all_false f (suc n) none = elim (and_cases (all_below f n) (f n) none) [
   | inr here ↦ (n, omega arith, here)
 ]
 
+-- what decides it at each number decides it of all
+all_decides : (f : ℕ → Bool) (n : ℕ) (b : Bool) → (((k : ℕ) → k < n → f k ≡ true) → true ≡ b) → ((k : ℕ) → k < n → f k ≡ false → false ≡ b) → all_below f n ≡ b
+all_decides f n b each_is one_is_not = elim (cases_Bool (all_below f n)) [
+  | inl each ↦ each ∙ each_is (all_true f n each)
+  | inr some ↦ let found = all_false f n some in some ∙ one_is_not found.0 found.1 found.2
+]
+
 -- along dimension k the chunk begins below the shape, or ends there
 abbrev pub begins_at : Grid → List ℕ → List ℕ → ℕ → Bool
 begins_at grid shape index k = nat_lt ((grid.axis k).edge (slice_index index k)) (slice_index shape k)
@@ -135,22 +142,14 @@ module _ (grid : Grid) (lawful : IsGrid grid) (shape index : List ℕ) (has : ha
 
   -- each dimension said it
   keeps_said : (begins ends : Bool) (n : ℕ) → n ≡ length shape → CutTo grid shape index begins ends n → begins ≡ keeps_some grid shape index
-  keeps_said begins ends n all c = c.begins_is ∙ elim (cases_Bool (all_below (begins_at grid shape index) n)) [
-    | inl each ↦ each ∙ begins_all n all (λ k below. ltb-true _ _ (all_true (begins_at grid shape index) n each k below))
-    | inr some ↦
-        let found = all_false (begins_at grid shape index) n some in
-        let past = ltb-false _ _ found.2 in
-        some ∙ begins_past found.0 (omega (arith, found.1)) past
-  ]
+  keeps_said begins ends n all c = c.begins_is ∙ all_decides (begins_at grid shape index) n (keeps_some grid shape index)
+      (λ each. begins_all n all (λ k below. ltb-true _ _ (each k below)))
+      (λ k below past. begins_past k (omega (arith, below)) (ltb-false _ _ past))
 
   below_said : (begins ends : Bool) (n : ℕ) → n ≡ length shape → CutTo grid shape index begins ends n → ends ≡ is_below shape (last_of (box_at grid index))
-  below_said begins ends n all c = c.ends_is ∙ elim (cases_Bool (all_below (ends_at grid shape index) n)) [
-    | inl each ↦ each ∙ ends_all n all (λ k below. leb-true _ _ (all_true (ends_at grid shape index) n each k below))
-    | inr some ↦
-        let found = all_false (ends_at grid shape index) n some in
-        let past = leb-false _ _ found.2 in
-        some ∙ ends_past found.0 (omega (arith, found.1)) past
-  ]
+  below_said begins ends n all c = c.ends_is ∙ all_decides (ends_at grid shape index) n (is_below shape (last_of (box_at grid index)))
+      (λ each. ends_all n all (λ k below. leb-true _ _ (each k below)))
+      (λ k below past. ends_past k (omega (arith, below)) (leb-false _ _ past))
 
 -- what these say together
 pub no_chunk_cut : (grid : Grid) (shape index : List ℕ) → has_box grid index ≡ false → None ≡ cond (is_cut grid shape index) (Some (keeps_some grid shape index)) None
