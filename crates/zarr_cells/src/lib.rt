@@ -1,8 +1,8 @@
 //! The cells of arrays as text, as bytes and in numpy's format, and what the array layer sees of foreign documents.
 //!
 //! A `Form` is what the bytes of a cell say. `seen` shows the layer a foreign document as one that it reads, whose cells
-//! are the same bytes; the `Lens` says how it differs. `numbers` and `region` read the words of a command line, and
-//! `split_rows` cuts the first rows off a region.
+//! are the same bytes; the `Lens` says how it differs. `ascii_json` writes a JSON text in ASCII. `numbers` and `region`
+//! read the words of a command line, and `split_rows` cuts the first rows off a region.
 #![tactic(auto)]
 
 mod ascii;

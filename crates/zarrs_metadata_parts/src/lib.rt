@@ -1,8 +1,9 @@
 //! The small parts that documents of arrays are made of, read from and written to JSON values.
 //!
 //! The layers above use `MetadataV3`, an extension point: a name, a configuration, and whether it must be understood.
-//! They also use `FillValueMetadata`, `DataTypeMetadataV2` and `ChunkKeySeparator`. `MetadataError` says why a JSON
-//! value is not metadata, and `PluginCreateError` why no part of an array was made from metadata.
+//! They also use `FillValueMetadata`, `DataTypeMetadataV2` and `ChunkKeySeparator`, and functions over JSON lists of
+//! numbers, sizes and extension points. `MetadataError` says why a JSON value is not metadata, and `PluginCreateError`
+//! why no part of an array was made from metadata.
 //!
 //! `specs/Extension.antt` has `ExtensionData`: `extension_view` gives that of a `MetadataV3`, `extension_of` that of
 //! a JSON value, and `extension_data` writes it. `specs/FillValue.antt`, `specs/TypesV2.antt`,
